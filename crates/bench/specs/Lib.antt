@@ -1,0 +1,4 @@
+pub mod Record
+pub mod Sound
+pub mod Table
+pub mod Turn
