@@ -2,3 +2,4 @@ pub mod Record
 pub mod Sound
 pub mod Table
 pub mod Turn
+pub mod Reach

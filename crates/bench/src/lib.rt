@@ -6,7 +6,9 @@ ghost use Rattle.bench.specs.Turn.{freshOf};
 use card::Claim;
 use card::Halves;
 
+mod moves;
 mod sound;
+mod turns;
 
 // Where a station stands: at rest, or before the operation of 001's line of that number.
 pub enum Place {

@@ -1,23 +1,19 @@
 -- A refusal is given exactly when it holds and none before it does. Assumes nothing.
 use mathlib.Core.Path.{_≡_, refl, _∙_, sym, ap}
 use mathlib.Core.Logic.{_↔_}
-use mathlib.Core.Bool.{Bool, true, false, cond, not, _&&_, _||_, true≢false, false≢true}
+use mathlib.Core.Bool.{Bool, true, false, cond, not, _&&_, _||_, false≢true}
 use mathlib.Core.List.{List, [], _∷_}
 use Prim.Native.Nat.{ℕ, zero, suc, _<_}
 use native.Mathlib.Omega.{arith}
 use borrow.Author.Tests.{ltb-true, lt-ltb, eqb-true, eqb-false, eq-eqb, ne-eqb, not-true}
 use lib.Dec.{eqb, ltb}
 use Rattle.rules.specs.Refusal.{Refusal, refusalOf, holdsAt, earlier, absent, proper, GivenExactly, Exact}
-use Rattle.rules.proofs.Facts.{and-left, and-right}
+use Rattle.rules.proofs.Facts.{and-left, and-right, or-none}
 
 -- by cases on a test
 either-way : {X : Type 0} (b : Bool) → (b ≡ true → X) → (b ≡ false → X) → X
 either-way true f g = f refl
 either-way false f g = g refl
-
-or-none : (a b : Bool) → (a || b) ≡ false → (a ≡ false) × (b ≡ false)
-or-none true b e = absurd (true≢false e)
-or-none false b e = (refl, e)
 
 -- what a proper table says of its first refusal
 record Head (r : Refusal) (rs : List Refusal) : Type 0 where

@@ -1,0 +1,401 @@
+// One station's operation, on what one turn can reach. Small values are moved here, and not the bench, so that a turn costs little.
+// A move assumes what a sound bench gives of its station (`Ready`): its numbers can grow without wrapping.
+ghost use mathlib.Core.Path.{_≡_};
+ghost use Rattle.bench.specs.Table.{handed, after16};
+ghost use Rattle.bench.specs.Reach.{Ready, reaching, move5, moveRest, move11, move12, move13, move14, move15, move16, move18, move19, move20, moveAt};
+ghost use Prim.Native.Nat.{_<_};
+use crate::Answer;
+use crate::Bench;
+use crate::Call;
+use crate::Place;
+use crate::Station;
+use card::Claim;
+use card::Halves;
+
+// V, P, the one entry of A and of R that the turn of station id reaches, and the station's record.
+pub(crate) struct Reach {
+    pub id: u32,
+    pub v: Halves,
+    pub p: Claim,
+    pub a: Halves,
+    pub r: Halves,
+    pub station: Station,
+}
+
+pub(crate) struct Moved {
+    pub answer: Answer,
+    pub reach: Reach,
+}
+
+// What a set or a swap hands back.
+fn handed(kind: u32, truth: u32, read: u32) -> u32
+    ensures { λ r. ⌜ r ≡ handed kind truth read ⌝ }
+{
+    if kind == 2 { read } else { truth }
+}
+
+fn after_16(saw: Claim, entry: Halves) -> Place
+    ensures { λ r. ⌜ r ≡ after16 saw entry ⌝ }
+{
+    if (saw.seq % 2 == 0) & (saw.c == entry.first) {
+        Place::At18
+    } else {
+        Place::At20
+    }
+}
+
+impl Station {
+    // The entry of A and R that the turn of station i reaches: the saved pid's at 16 and 18, else its own.
+    pub(crate) fn reaches(self, i: u32) -> u32
+        ensures { λ r. ⌜ r ≡ reaching (self .place) i self ⌝ }
+    {
+        let pid = self.saw.pid;
+        let place = self.place;
+        match place {
+            Place::Rest => i,
+            Place::At11 => i,
+            Place::At12 => i,
+            Place::At13 => i,
+            Place::At14 => i,
+            Place::At15 => i,
+            Place::At16 => pid,
+            Place::At18 => pid,
+            Place::At19 => i,
+            Place::At20 => i,
+        }
+    }
+}
+
+impl Reach {
+    fn move_5(mut self, kind: u32, a: u32, b: u32) -> Moved
+        ensures { λ r. ⌜ r ≡ move5 self kind a b ⌝ }
+    {
+        let v = self.v;
+        let count = self.station.c;
+        if v.second != a {
+            let result = handed(kind, 0, v.second);
+            return Moved {
+                answer: Answer::Ended { result, own: 1 },
+                reach: self,
+            };
+        }
+        if a == b {
+            let result = handed(kind, 1, v.second);
+            return Moved {
+                answer: Answer::Ended { result, own: 1 },
+                reach: self,
+            };
+        }
+        let call = Call { kind, a, b };
+        let saw = Claim {
+            seq: 0,
+            pid: 0,
+            c: 0,
+        };
+        let entry = Halves {
+            first: 0,
+            second: 0,
+        };
+        let station = Station {
+            place: Place::At11,
+            call,
+            s: v.first,
+            own: 1,
+            c: count,
+            saw,
+            entry,
+        };
+        self.station = station;
+        Moved {
+            answer: Answer::Going,
+            reach: self,
+        }
+    }
+
+    // A station at rest begins the offered call, or is refused 12 or 13.
+    fn move_rest(self, kind: u32, a: u32, b: u32) -> Moved
+        ensures { λ r. ⌜ r ≡ moveRest self kind a b ⌝ }
+    {
+        let result = self.v.second;
+        let version = self.v.first;
+        let count = self.station.c;
+        if kind == 3 {
+            return Moved {
+                answer: Answer::Idle,
+                reach: self,
+            };
+        }
+        if kind == 0 {
+            return Moved {
+                answer: Answer::Ended { result, own: 1 },
+                reach: self,
+            };
+        }
+        if count == Bench::COUNT {
+            return Moved {
+                answer: Answer::Refused(12),
+                reach: self,
+            };
+        }
+        if Bench::VERSION < version {
+            return Moved {
+                answer: Answer::Refused(13),
+                reach: self,
+            };
+        }
+        self.move_5(kind, a, b)
+    }
+
+    fn move_11(mut self) -> Moved
+        requires { ⌜ Ready (self .station) ⌝ }
+        ensures { λ r. ⌜ r ≡ move11 self ⌝ }
+    {
+        let t = self.station;
+        let call = t.call;
+        let saw = t.saw;
+        let entry = t.entry;
+        let c = t.c + 1;
+        let a = Halves {
+            first: c,
+            second: call.b,
+        };
+        let station = Station {
+            place: Place::At12,
+            call,
+            s: t.s,
+            own: t.own + 1,
+            c,
+            saw,
+            entry,
+        };
+        self.a = a;
+        self.station = station;
+        Moved {
+            answer: Answer::Going,
+            reach: self,
+        }
+    }
+
+    fn move_12(mut self) -> Moved
+        requires { ⌜ Ready (self .station) ⌝ }
+        ensures { λ r. ⌜ r ≡ move12 self ⌝ }
+    {
+        let t = self.station;
+        let call = t.call;
+        let saw = t.saw;
+        let entry = t.entry;
+        let r = Halves {
+            first: t.c,
+            second: 0,
+        };
+        let station = Station {
+            place: Place::At13,
+            call,
+            s: t.s,
+            own: t.own + 1,
+            c: t.c,
+            saw,
+            entry,
+        };
+        self.r = r;
+        self.station = station;
+        Moved {
+            answer: Answer::Going,
+            reach: self,
+        }
+    }
+
+    fn move_13(mut self) -> Moved
+        requires { ⌜ Ready (self .station) ⌝ }
+        ensures { λ r. ⌜ r ≡ move13 self ⌝ }
+    {
+        let t = self.station;
+        let call = t.call;
+        let saw = t.saw;
+        let entry = t.entry;
+        let p = self.p;
+        let q = p.max_write(t.s + 1, self.id, t.c);
+        let station = Station {
+            place: Place::At14,
+            call,
+            s: t.s,
+            own: t.own + 1,
+            c: t.c,
+            saw,
+            entry,
+        };
+        self.p = q;
+        self.station = station;
+        Moved {
+            answer: Answer::Going,
+            reach: self,
+        }
+    }
+
+    fn move_14(mut self) -> Moved
+        requires { ⌜ Ready (self .station) ⌝ }
+        ensures { λ r. ⌜ r ≡ move14 self ⌝ }
+    {
+        let t = self.station;
+        let call = t.call;
+        let saw = t.saw;
+        let entry = t.entry;
+        let p = self.p;
+        let q = p.half_max(t.s + 2);
+        let station = Station {
+            place: Place::At15,
+            call,
+            s: t.s,
+            own: t.own + 1,
+            c: t.c,
+            saw,
+            entry,
+        };
+        self.p = q;
+        self.station = station;
+        Moved {
+            answer: Answer::Going,
+            reach: self,
+        }
+    }
+
+    fn move_15(mut self) -> Moved
+        requires { ⌜ Ready (self .station) ⌝ }
+        ensures { λ r. ⌜ r ≡ move15 self ⌝ }
+    {
+        let t = self.station;
+        let call = t.call;
+        let saw = self.p;
+        let entry = t.entry;
+        let station = Station {
+            place: Place::At16,
+            call,
+            s: t.s,
+            own: t.own + 1,
+            c: t.c,
+            saw,
+            entry,
+        };
+        self.station = station;
+        Moved {
+            answer: Answer::Going,
+            reach: self,
+        }
+    }
+
+    fn move_16(mut self) -> Moved
+        requires { ⌜ Ready (self .station) ⌝ }
+        ensures { λ r. ⌜ r ≡ move16 self ⌝ }
+    {
+        let t = self.station;
+        let call = t.call;
+        let saw = t.saw;
+        let entry = self.a;
+        let place = after_16(saw, entry);
+        let station = Station {
+            place,
+            call,
+            s: t.s,
+            own: t.own + 1,
+            c: t.c,
+            saw,
+            entry,
+        };
+        self.station = station;
+        Moved {
+            answer: Answer::Going,
+            reach: self,
+        }
+    }
+
+    fn move_18(mut self) -> Moved
+        requires { ⌜ Ready (self .station) ⌝ }
+        ensures { λ r. ⌜ r ≡ move18 self ⌝ }
+    {
+        let t = self.station;
+        let call = t.call;
+        let saw = t.saw;
+        let entry = t.entry;
+        let r = self.r;
+        let q = r.max_write(entry.first, 1);
+        let station = Station {
+            place: Place::At19,
+            call,
+            s: t.s,
+            own: t.own + 1,
+            c: t.c,
+            saw,
+            entry,
+        };
+        self.r = q;
+        self.station = station;
+        Moved {
+            answer: Answer::Going,
+            reach: self,
+        }
+    }
+
+    fn move_19(mut self) -> Moved
+        requires { ⌜ Ready (self .station) ⌝ }
+        ensures { λ r. ⌜ r ≡ move19 self ⌝ }
+    {
+        let t = self.station;
+        let call = t.call;
+        let saw = t.saw;
+        let entry = t.entry;
+        let v = self.v;
+        let q = v.max_write(saw.seq, entry.second);
+        let station = Station {
+            place: Place::At20,
+            call,
+            s: t.s,
+            own: t.own + 1,
+            c: t.c,
+            saw,
+            entry,
+        };
+        self.v = q;
+        self.station = station;
+        Moved {
+            answer: Answer::Going,
+            reach: self,
+        }
+    }
+
+    fn move_20(mut self) -> Moved
+        requires { ⌜ Ready (self .station) ⌝ }
+        ensures { λ r. ⌜ r ≡ move20 self ⌝ }
+    {
+        let t = self.station;
+        let r = self.r;
+        let own = t.own + 1;
+        let result = handed(t.call.kind, r.second, t.call.a);
+        let station = Station::resting(t.c);
+        self.station = station;
+        Moved {
+            answer: Answer::Ended { result, own },
+            reach: self,
+        }
+    }
+
+    // The operation of the place where the station stands.
+    pub(crate) fn moved(self, kind: u32, a: u32, b: u32) -> Moved
+        requires { ⌜ Ready (self .station) ⌝ }
+        ensures { λ r. ⌜ r ≡ moveAt (self .station .place) self kind a b ⌝ }
+    {
+        let t = self.station;
+        let place = t.place;
+        match place {
+            Place::Rest => self.move_rest(kind, a, b),
+            Place::At11 => self.move_11(),
+            Place::At12 => self.move_12(),
+            Place::At13 => self.move_13(),
+            Place::At14 => self.move_14(),
+            Place::At15 => self.move_15(),
+            Place::At16 => self.move_16(),
+            Place::At18 => self.move_18(),
+            Place::At19 => self.move_19(),
+            Place::At20 => self.move_20(),
+        }
+    }
+}
