@@ -3,3 +3,4 @@ pub mod Sound
 pub mod Table
 pub mod Turn
 pub mod Reach
+pub mod Promise

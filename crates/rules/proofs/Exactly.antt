@@ -8,12 +8,7 @@ use native.Mathlib.Omega.{arith}
 use borrow.Author.Tests.{ltb-true, lt-ltb, eqb-true, eqb-false, eq-eqb, ne-eqb, not-true}
 use lib.Dec.{eqb, ltb}
 use Rattle.rules.specs.Refusal.{Refusal, refusalOf, holdsAt, earlier, absent, proper, GivenExactly, Exact}
-use Rattle.rules.proofs.Facts.{and-left, and-right, or-none}
-
--- by cases on a test
-either-way : {X : Type 0} (b : Bool) → (b ≡ true → X) → (b ≡ false → X) → X
-either-way true f g = f refl
-either-way false f g = g refl
+use Rattle.rules.proofs.Facts.{either-way, and-left, and-right, or-none}
 
 -- what a proper table says of its first refusal
 record Head (r : Refusal) (rs : List Refusal) : Type 0 where

@@ -1,0 +1,93 @@
+-- Turns of any bench: their refusals, and that they keep it sound. Assumes nothing.
+use mathlib.Core.Path.{_≡_, refl, _∙_, sym, ap}
+use mathlib.Core.Bool.{Bool, true, false, cond, not, _&&_, _||_}
+use mathlib.Core.List.{List, [], _∷_}
+use Prim.Native.Nat.{ℕ, suc, _<_, _≤_, _+_, _%_}
+use native.Mathlib.Omega.{arith}
+use borrow.Author.Tests.{ltb-false, eqb-true, eqb-false, ne-eqb, not-false}
+use lib.Dec.{ltb, eqb}
+use lib.ListN.{getD, replicate}
+use Rattle.rules.specs.Refusal.{Refusal, refusalOf, holdsAt, Exact}
+use Rattle.rules.specs.Test.{When}
+use Rattle.rules.proofs.Exactly.{exactly}
+use Rattle.rules.proofs.Facts.{either-way, or-none}
+use Rattle.card.specs.Register.{halves}
+use Rattle.bench.specs.declared.Place.{Place}
+use Rattle.bench.specs.declared.Place.the-variants.{Rest, At11, At12, At13, At14, At15, At16, At18, At19, At20}
+use Rattle.bench.specs.declared.Station.{Station}
+use Rattle.bench.specs.declared.Bench.{Bench}
+use Rattle.bench.specs.declared.Turned.{Turned}
+use Rattle.bench.specs.declared.Answer.{Answer}
+use Rattle.bench.specs.declared.Answer.the-variants.{Idle, Going, Ended, Refused}
+use Rattle.bench.specs.Record.{blank, resting, stationAt, putStation}
+use Rattle.bench.specs.Sound.{countLimit, versionLimit, stationLimit, sound}
+use Rattle.bench.specs.Table.{turned, handed, begun, row2, row5, rowRest, row}
+use Rattle.bench.specs.Turn.{told, badStation, badOffer, wouldBegin, orRefused, turnRefusals, turnOf, freshOf}
+use Rattle.bench.specs.Promise.{Turn, turnBy, RefusedExactly, KeptSound}
+use Rattle.bench.proofs.Sounds.{Sound, facts, holds}
+use Rattle.bench.proofs.Kept.{row-sound}
+
+-- a row refuses nothing
+none-refused : (none reads other same : Bool) (w x : Bench) (v y z : ℕ)
+    → told (cond none (turned Idle w) (cond reads (turned (Ended v 1) w) (cond other (turned (Ended y 1) w) (cond same (turned (Ended z 1) w) (turned Going x)))) .answer) .refusal ≡ 0
+none-refused true reads other same w x v y z = refl
+none-refused false true other same w x v y z = refl
+none-refused false false true same w x v y z = refl
+none-refused false false false true w x v y z = refl
+none-refused false false false false w x v y z = refl
+
+row-answers : (p : Place) (w : Bench) (i : ℕ) (t : Station) (kind a b : ℕ) → told (row p w i t kind a b .answer) .refusal ≡ 0
+unfolding row rowRest row5
+row-answers Rest w i t kind a b =
+    none-refused (eqb kind 3) (eqb kind 0) (not (eqb (w .v .second) a)) (eqb a b) w (putStation i (begun w t kind a b) w) (w .v .second)
+    (handed kind 0 (w .v .second)) (handed kind 1 (w .v .second))
+row-answers At11 w i t kind a b = refl
+row-answers At12 w i t kind a b = refl
+row-answers At13 w i t kind a b = refl
+row-answers At14 w i t kind a b = refl
+row-answers At15 w i t kind a b = refl
+row-answers At16 w i t kind a b = refl
+row-answers At18 w i t kind a b = refl
+row-answers At19 w i t kind a b = refl
+row-answers At20 w i t kind a b = refl
+
+-- refused with a number, or the row
+refused-or : (number : ℕ) (w : Bench) (x : Turned) → told (x .answer) .refusal ≡ 0 → told (orRefused number w x .answer) .refusal ≡ number
+refused-or number w x h = either-way (eqb number 0) (λ e. rw e (h ∙ sym (eqb-true number 0 e))) (λ e. rw e)
+
+refused-same : (number : ℕ) (w : Bench) (x : Turned) → (number ≡ 0 → ⊥) → orRefused number w x .bench ≡ w
+refused-same number w x h = rw (ne-eqb number 0 h)
+
+pub refused-exactly : (w : Bench) (u : Turn) → RefusedExactly w u
+unfolding turnOf Exact
+refused-exactly w u =
+    let i = u .station in
+    let rs = turnRefusals w i (u .kind) (u .a) (u .b) in
+    let x = row (stationAt w i .place) w i (stationAt w i) (u .kind) (u .a) (u .b) in
+    let q = refused-or (refusalOf rs) w x (row-answers (stationAt w i .place) w i (stationAt w i) (u .kind) (u .a) (u .b)) in
+    record { number = q; exactly = exactly rs refl; same = λ h. refused-same (refusalOf rs) w x (λ e. h (q ∙ e)) }
+
+-- what is known where no refusal of a turn holds
+pub record Clear (w : Bench) (i kind a b : ℕ) : Type 0 where
+  pub isSound : sound w ≡ true
+  pub low : 1 ≤ i
+  pub high : i ≤ w .n
+  pub known : kind ≤ 3
+  pub room : (wouldBegin (stationAt w i .place) kind && eqb (stationAt w i .c) countLimit) ≡ false
+  pub early : (wouldBegin (stationAt w i .place) kind && ltb versionLimit (w .v .first)) ≡ false
+
+pub clear : (w : Bench) (i kind a b : ℕ) → refusalOf (turnRefusals w i kind a b) ≡ 0 → Clear w i kind a b
+unfolding holdsAt Exact
+clear w i kind a b e =
+    let none = exactly (turnRefusals w i kind a b) refl .none .0 e in
+    let station = or-none (eqb i 0) (ltb (w .n) i) (none 10) in
+    let z = eqb-false i 0 (station .0) in
+    let offer = or-none (ltb 3 kind) ((eqb kind 0 || eqb kind 3) && (not (eqb a 0) || not (eqb b 0))) (none 11) in
+    record {
+      isSound = not-false (sound w) (none 9);
+      low = omega arith;
+      high = ltb-false (w .n) i (station .1);
+      known = ltb-false 3 kind (offer .0);
+      room = none 12;
+      early = none 13;
+    }

@@ -1,0 +1,153 @@
+-- Own turns count the table's operations that a station did in its call, and there are 1, 8 or 10 of them. Assumes nothing.
+use mathlib.Core.Path.{_≡_, refl, _∙_, sym, ap}
+use mathlib.Core.Logic.{_⊎_, inl, inr, ⊎-elim}
+use mathlib.Core.Bool.{Bool, true, false, cond, not, _&&_, _||_}
+use mathlib.Core.List.{List, [], _∷_}
+use Prim.Native.Nat.{ℕ, _<_, _≤_, _+_}
+use native.Mathlib.Omega.{arith}
+use borrow.Author.Tests.{eqb-true, eqb-false, eq-eqb, ne-eqb}
+use lib.Dec.{eqb}
+use lib.ListN.{getD, set, length, length-set}
+use lib.Seq.{getD-set-same, getD-set-other}
+use Rattle.rules.specs.Refusal.{refusalOf}
+use Rattle.rules.proofs.Facts.{either-way}
+use Rattle.bench.specs.declared.Place.{Place}
+use Rattle.bench.specs.declared.Place.the-variants.{Rest, At11, At12, At13, At14, At15, At16, At18, At19, At20}
+use Rattle.bench.specs.declared.Station.{Station}
+use Rattle.bench.specs.declared.Bench.{Bench}
+use Rattle.bench.specs.declared.Turned.{Turned}
+use Rattle.bench.specs.declared.Answer.{Answer}
+use Rattle.bench.specs.declared.Answer.the-variants.{Idle, Going, Ended, Refused}
+use Rattle.bench.specs.Record.{resting, stationAt, putStation}
+use Rattle.bench.specs.Sound.{countLimit, sound}
+use Rattle.bench.specs.Table.{turned, handed, sees, goes, begun, grown, after16, row2, row5, rowRest, row}
+use Rattle.bench.specs.Turn.{Told, told, turnRefusals, orRefused, turnOf}
+use Rattle.bench.specs.Promise.{Turn, turnBy, after, counted, operations, OwnTurns, OwnTurnsCount}
+use Rattle.bench.proofs.Sounds.{Stands, facts}
+use Rattle.bench.proofs.Clear.{clear}
+use Rattle.bench.proofs.Promised.{turn-sound}
+
+-- what a turn of station i does to the own turns of every station, and what it answers of its own, d of them being done
+record Counts (w : Bench) (u : Turn) (x : Turned) : Type 0 where
+  whole : length (x .bench .stations) ≡ length (w .stations)
+  owns : (i : ℕ) → stationAt (x .bench) i .own ≡ counted i (stationAt w i .own) u (x .answer)
+  ended : told (x .answer) .case ≡ 2 → (told (x .answer) .own ≡ stationAt w (u .station) .own + 1)
+      × ((told (x .answer) .own ≡ 1) ⊎ ((told (x .answer) .own ≡ 8) ⊎ (told (x .answer) .own ≡ 10)))
+  going : told (x .answer) .case ≡ 1 → stationAt w (u .station) .own + 1 ≤ 9
+
+refuses : (w : Bench) (u : Turn) (number : ℕ) → Counts w u (turned (Refused number) w)
+refuses w u number = record { whole = refl; owns = λ i. refl; ended = λ n. absurd (omega arith); going = λ n. absurd (omega arith) }
+
+module _ (limit : ℕ) (w : Bench) (u : Turn) (inside : u .station < length (w .stations)) where
+  abbrev t : Station
+  t = stationAt w (u .station)
+
+  -- the own turns of station i once the turn's station has the record x
+  put-own : (x : Station) (i : ℕ) → getD (set (w .stations) (u .station) x) i (resting 0) .own ≡ cond (eqb i (u .station)) (x .own) (stationAt w i .own)
+  put-own x i =
+      either-way (eqb i (u .station))
+      (λ e. rw (e, eqb-true i (u .station) e) (ap (λ (z : Station). z .own) (getD-set-same (w .stations) (u .station) x (resting 0) inside)))
+      (λ e. rw e (ap (λ (z : Station). z .own) (getD-set-other (w .stations) (u .station) i x (resting 0) (eqb-false i (u .station) e))))
+
+  -- the choice of station i, where that is the turn's own
+  by-station : (f : ℕ → ℕ) (x : ℕ) (i : ℕ) → x ≡ f (t .own) → cond (eqb i (u .station)) x (stationAt w i .own) ≡ cond (eqb i (u .station)) (f (stationAt w i .own)) (stationAt w i .own)
+  by-station f x i e =
+      either-way (eqb i (u .station))
+      (λ q. rw q (e ∙ ap (λ j. f (stationAt w j .own)) (sym (eqb-true i (u .station) q))))
+      (λ q. rw q)
+
+  -- a bench whose registers are v, where the station's record becomes x and it goes on
+  goes-on : (v : Bench) (x : Station) → v .stations ≡ w .stations → x .own ≡ t .own + 1 → t .own + 1 ≤ 9 → Counts w u (turned Going (putStation (u .station) x v))
+  goes-on v x q e h =
+      record {
+        whole = ap (λ l. length (set l (u .station) x)) q ∙ length-set (w .stations) (u .station) x;
+        owns = λ i. ap (λ l. getD (set l (u .station) x) i (resting 0) .own) q ∙ put-own x i ∙ by-station (λ d. d + 1) (x .own) i e;
+        ended = λ n. absurd (omega arith);
+        going = λ n. h;
+      }
+
+  -- a station at rest that ends its call at once, or is idle
+  at-once : (r : ℕ) → t .own ≡ 0 → Counts w u (turned (Ended r 1) w)
+  at-once r e =
+      record {
+        whole = refl;
+        owns = λ i. either-way (eqb i (u .station)) (λ q. rw q (ap (λ j. stationAt w j .own) (eqb-true i (u .station) q) ∙ e)) (λ q. rw q);
+        ended = λ n. (omega arith, inl refl);
+        going = λ n. absurd (omega arith);
+      }
+
+  idles : Counts w u (turned Idle w)
+  idles = record { whole = refl; owns = λ i. refl; ended = λ n. absurd (omega arith); going = λ n. absurd (omega arith) }
+
+  ends : (r : ℕ) → (t .own ≡ 7) ⊎ (t .own ≡ 9) → Counts w u (turned (Ended r (t .own + 1)) (putStation (u .station) (resting (t .c)) w))
+  ends r h =
+      record {
+        whole = length-set (w .stations) (u .station) (resting (t .c));
+        owns = λ i. put-own (resting (t .c)) i;
+        ended = λ n. (refl, ⊎-elim (λ q. inr (inl (omega arith))) (λ q. inr (inr (omega arith))) h);
+        going = λ n. absurd (omega arith);
+      }
+
+  begins : (none reads other same : Bool) (kind a b y z : ℕ) → t .own ≡ 0
+      → Counts w u
+      (cond none (turned Idle w)
+      (cond reads (row2 w) (cond other (turned (Ended y 1) w) (cond same (turned (Ended z 1) w) (turned Going (putStation (u .station) (begun w t kind a b) w))))))
+  begins true reads other same kind a b y z e = idles
+  begins false true other same kind a b y z e = at-once (w .v .second) e
+  begins false false true same kind a b y z e = at-once y e
+  begins false false false true kind a b y z e = at-once z e
+  begins false false false false kind a b y z e = goes-on w (begun w t kind a b) refl (omega arith) (omega arith)
+
+  counts : (p : Place) → Stands limit (w .n) p t → Counts w u (row p w (u .station) t (u .kind) (u .a) (u .b))
+  unfolding row rowRest row5
+  counts Rest k =
+      begins (eqb (u .kind) 3) (eqb (u .kind) 0) (not (eqb (w .v .second) (u .a))) (eqb (u .a) (u .b)) (u .kind) (u .a) (u .b) (handed (u .kind) 0 (w .v .second))
+      (handed (u .kind) 1 (w .v .second)) (k .own)
+  counts At11 k = goes-on _ (grown t) refl refl (omega (arith, k .own))
+  counts At12 k = goes-on _ (goes t At13) refl refl (omega (arith, k .own))
+  counts At13 k = goes-on _ (goes t At14) refl refl (omega (arith, k .own))
+  counts At14 k = goes-on _ (goes t At15) refl refl (omega (arith, k .own))
+  counts At15 k = goes-on _ (sees t At16 (w .p) (t .entry)) refl refl (omega (arith, k .own))
+  counts At16 k = goes-on w _ refl refl (omega (arith, k .own))
+  counts At18 k = goes-on _ (goes t At19) refl refl (omega (arith, k .own))
+  counts At19 k = goes-on _ (goes t At20) refl refl (omega (arith, k .own))
+  counts At20 k = ends _ (k .own)
+
+-- one turn of any sound bench
+turn-counts : (w : Bench) (u : Turn) → length (w .stations) ≡ 33 → sound w ≡ true → Counts w u (turnBy w u)
+unfolding turnOf
+turn-counts w u l s =
+    let i = u .station in
+    let number = refusalOf (turnRefusals w i (u .kind) (u .a) (u .b)) in
+    either-way (eqb number 0)
+    (λ e.
+    let k = clear w i (u .kind) (u .a) (u .b) (eqb-true number 0 e) in
+    let f = facts w s in
+    let h : i < 33 = omega (arith, k .high, f .head .0 .1 .0) in
+    rw e (counts countLimit w u (omega arith) (stationAt w i .place) (f .station i h .stands)))
+    (λ e. rw e (refuses w u number))
+
+-- over any turns
+own-counts : (us : List Turn) (i : ℕ) (w : Bench) → length (w .stations) ≡ 33 → sound w ≡ true
+    → (length (after w us .stations) ≡ 33) × (sound (after w us) ≡ true) × (stationAt (after w us) i .own ≡ operations i (stationAt w i .own) w us)
+unfolding after operations
+own-counts [] i w l s = (l, s, refl)
+own-counts (u ∷ us) i w l s =
+    let c = turn-counts w u l s in
+    let r = own-counts us i (turnBy w u .bench) (c .whole ∙ l) (turn-sound w u s) in (r .0, r .1, r .2 ∙ ap (λ d. operations i d (turnBy w u .bench) us) (c .owns i))
+
+pub own-turns : OwnTurnsCount
+unfolding OwnTurnsCount
+own-turns w l s us u =
+    let v = after w us in
+    let r = own-counts us (u .station) w l s in
+    let c = turn-counts v u (r .0) (r .1) in
+    let d = r .2 in
+    record {
+      counts = d;
+      ended =
+          λ result own e.
+          let q : told (turnBy v u .answer) .own ≡ own = ap (λ x. told x .own) e in
+          let h = c .ended (ap (λ x. told x .case) e) in (sym q ∙ h .0 ∙ ap (λ x. x + 1) d, rw q at (h .1));
+      going = λ e. rw (← d) (c .going (ap (λ x. told x .case) e));
+    }
