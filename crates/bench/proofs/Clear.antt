@@ -23,7 +23,7 @@ use Rattle.bench.specs.Record.{blank, resting, stationAt, putStation}
 use Rattle.bench.specs.Sound.{countLimit, versionLimit, stationLimit, sound}
 use Rattle.bench.specs.Table.{turned, handed, begun, row2, row5, rowRest, row}
 use Rattle.bench.specs.Turn.{told, badStation, badOffer, wouldBegin, orRefused, turnRefusals, turnOf, freshOf}
-use Rattle.bench.specs.Promise.{Turn, turnBy, RefusedExactly, KeptSound}
+use Rattle.bench.specs.Promise.{Turn, turnBy, RefusesExactly}
 use Rattle.bench.proofs.Sounds.{Sound, facts, holds}
 use Rattle.bench.proofs.Kept.{row-sound}
 
@@ -58,9 +58,9 @@ refused-or number w x h = either-way (eqb number 0) (λ e. rw e (h ∙ sym (eqb-
 refused-same : (number : ℕ) (w : Bench) (x : Turned) → (number ≡ 0 → ⊥) → orRefused number w x .bench ≡ w
 refused-same number w x h = rw (ne-eqb number 0 h)
 
-pub refused-exactly : (w : Bench) (u : Turn) → RefusedExactly w u
-unfolding turnOf Exact
-refused-exactly w u =
+pub refuses-exactly : RefusesExactly
+unfolding RefusesExactly turnOf Exact
+refuses-exactly w u =
     let i = u .station in
     let rs = turnRefusals w i (u .kind) (u .a) (u .b) in
     let x = row (stationAt w i .place) w i (stationAt w i) (u .kind) (u .a) (u .b) in

@@ -36,6 +36,9 @@ pub record RefusedExactly (w : Bench) (u : Turn) : Type 0 where
   pub exactly : GivenExactly (turnRefusals w (u .station) (u .kind) (u .a) (u .b))
   pub same : (told (turnBy w u .answer) .refusal ≡ 0 → ⊥) → turnBy w u .bench ≡ w
 
+unfoldable pub RefusesExactly : Type 0
+RefusesExactly = (w : Bench) (u : Turn) → RefusedExactly w u
+
 -- fresh benches are sound, and a turn of a sound bench hands back a sound bench
 pub record KeptSound : Type 0 where
   pub fresh : (x n : ℕ) → freshOf x n .refused ≡ 0 → sound (freshOf x n .bench) ≡ true

@@ -1,0 +1,28 @@
+-- A contract that is an equation allows one result; one with a lent buffer allows one result and one buffer. Assumes nothing.
+use mathlib.Core.Path.{_≡_, _∙_, sym}
+use mathlib.Core.List.{List}
+use Prim.Native.Nat.{ℕ}
+use Rattle.promises.specs.Unique.{Left, Unique, OneResult}
+
+by-equation : {X : Type 0} (d : X) → Unique X (λ r. r ≡ d)
+by-equation d x y p q = p ∙ sym q
+
+by-equations : {X : Type 0} (d : X) (l : List ℕ) → Unique (Left X) (λ r. (r .result ≡ d) × (r .out ≡ l))
+by-equations d l x y p q i = record { result = (p .0 ∙ sym (q .0)) i; out = (p .1 ∙ sym (q .1)) i }
+
+pub one-result : OneResult
+one-result =
+    record {
+      store = λ out x. by-equation _;
+      halvesMaxWrite = λ h f g. by-equation _;
+      halvesHalfMax = λ h f. by-equation _;
+      halvesWord = λ h. by-equation _;
+      claimMaxWrite = λ p f i c. by-equation _;
+      claimHalfMax = λ p f. by-equation _;
+      claimWord = λ p. by-equation _;
+      number = λ p. by-equation _;
+      fresh = λ x n. by-equation _;
+      sound = λ w. by-equation _;
+      turn = λ w i kind a b. by-equation _;
+      picture = λ w out. by-equations _ _;
+    }

@@ -1,0 +1,44 @@
+-- For each public function: two results that its contract allows for one input are equal, each lent byte with them. Assumes nothing.
+use mathlib.Core.Path.{_≡_}
+use mathlib.Core.Bool.{Bool}
+use mathlib.Core.List.{List}
+use Prim.Native.Nat.{ℕ}
+use lib.ListN.{length}
+use Rattle.octets.specs.Bytes.{bytes}
+use Rattle.card.specs.declared.Halves.{Halves}
+use Rattle.card.specs.declared.Claim.{Claim}
+use Rattle.card.specs.Register as Register
+use Rattle.card.specs.Word as Word
+use Rattle.bench.specs.declared.Place.{Place}
+use Rattle.bench.specs.declared.Bench.{Bench}
+use Rattle.bench.specs.declared.Turned.{Turned}
+use Rattle.bench.specs.declared.Made.{Made}
+use Rattle.bench.specs.Record as Record
+use Rattle.bench.specs.Sound as Sound
+use Rattle.bench.specs.Turn as Turn
+use Rattle.picture.specs.declared.Drawing.{Drawing}
+use Rattle.picture.specs.Picture as Picture
+
+-- a result and a lent buffer afterwards
+pub record Left (X : Type 0) : Type 0 where
+  pub result : X
+  pub out : List ℕ
+
+abbrev pub Unique : (X : Type 0) → (X → Type 0) → Type 0
+Unique X allowed = (x y : X) → allowed x → allowed y → x ≡ y
+
+-- the contracts, as their functions state them
+pub record OneResult : Type 0 where
+  pub store : (out : List ℕ) (x : ℕ) → Unique (List ℕ) (λ r. r ≡ bytes (length out) x)
+  pub halvesMaxWrite : (h : Halves) (f g : ℕ) → Unique Halves (λ r. r ≡ Register.maxWrite h f g)
+  pub halvesHalfMax : (h : Halves) (f : ℕ) → Unique Halves (λ r. r ≡ Register.halfMax h f)
+  pub halvesWord : (h : Halves) → Unique ℕ (λ r. r ≡ Word.wordOf h)
+  pub claimMaxWrite : (p : Claim) (f i c : ℕ) → Unique Claim (λ r. r ≡ Register.maxClaim p f i c)
+  pub claimHalfMax : (p : Claim) (f : ℕ) → Unique Claim (λ r. r ≡ Register.halfClaim p f)
+  pub claimWord : (p : Claim) → Unique ℕ (λ r. r ≡ Word.claimWord Word.revisionA p)
+  pub number : (p : Place) → Unique ℕ (λ r. r ≡ Record.num p)
+  pub fresh : (x n : ℕ) → Unique Made (λ r. r ≡ Turn.freshOf x n)
+  pub sound : (w : Bench) → Unique Bool (λ r. r ≡ Sound.sound w)
+  pub turn : (w : Bench) (i kind a b : ℕ) → Unique Turned (λ r. r ≡ Turn.turnOf w i kind a b)
+  pub picture : (w : Bench) (out : List ℕ)
+      → Unique (Left Drawing) (λ r. (r .result ≡ Picture.drawingOf w (length out)) × (r .out ≡ Picture.drawnOn w out))

@@ -1,0 +1,30 @@
+// The promises: a function for each, whose contract is the theorem and whose body is empty, so that the gate's log lists what the customer was promised.
+// They rest on the rooms' own proofs and assume nothing.
+ghost use Rattle.card.specs.Promise.{Card};
+ghost use Rattle.bench.specs.Promise.{RefusesExactly, KeptSound, OwnTurnsCount};
+ghost use Rattle.promises.specs.Unique.{OneResult};
+
+// R9, P's packing over any split, and that P is a register of two halves.
+pub fn registers_are_as_written()
+    ensures { λ r. ⌜ Card ⌝ }
+{}
+
+// Demand 1 for turns: each refusal exactly when it holds and none before it does, and a refused turn hands back the same bench.
+pub fn turns_are_refused_exactly()
+    ensures { λ r. ⌜ RefusesExactly ⌝ }
+{}
+
+// Fresh benches are sound, and so is the bench that a turn of a sound one hands back.
+pub fn turns_keep_a_bench_sound()
+    ensures { λ r. ⌜ KeptSound ⌝ }
+{}
+
+// Demand 3's first sentence: own turns are the table's operations done, 1, 8 or 10 of them, and a call has ended by the tenth.
+pub fn own_turns_are_operations()
+    ensures { λ r. ⌜ OwnTurnsCount ⌝ }
+{}
+
+// Two results that a public function's contract allows for one input are equal.
+pub fn results_are_unique()
+    ensures { λ r. ⌜ OneResult ⌝ }
+{}
