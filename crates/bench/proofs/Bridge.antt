@@ -8,6 +8,7 @@ use lib.ListN.{getD, set}
 use lib.Seq.{set-getD}
 use Rattle.card.specs.Register.{halves}
 use Rattle.rules.specs.Refusal.{refusal, refusalOf}
+use Rattle.rules.proofs.Facts.{passed}
 use Rattle.bench.specs.declared.Place.{Place}
 use Rattle.bench.specs.declared.Place.the-variants.{Rest, At11, At12, At13, At14, At15, At16, At18, At19, At20}
 use Rattle.bench.specs.declared.Station.{Station}
@@ -15,13 +16,13 @@ use Rattle.bench.specs.declared.Bench.{Bench}
 use Rattle.bench.specs.declared.Answer.{Answer}
 use Rattle.bench.specs.declared.Answer.the-variants.{Idle, Going, Ended, Refused}
 use Rattle.bench.specs.declared.Turned.{Turned}
-use Rattle.bench.specs.declared.moves.Reach.{Reach}
-use Rattle.bench.specs.declared.moves.Moved.{Moved}
+use Rattle.bench.specs.declared.Reach.{Reach}
+use Rattle.bench.specs.declared.Moved.{Moved}
 use Rattle.bench.specs.Record.{resting, stationAt, aAt, rAt, putStation}
 use Rattle.bench.specs.Sound.{countLimit, versionLimit}
 use Rattle.bench.specs.Table.{turned, handed, begun, row2, row5, rowRest, row}
 use Rattle.bench.specs.Turn.{orRefused, stepOf}
-use Rattle.bench.specs.Reach.{reaching, reach, moved, still, move5, moveAt}
+use Rattle.bench.specs.Reach.{readyRules, Ready, reaching, reach, moved, still, move5, moveAt, moveOf}
 
 -- what the turn of station i takes out, with the entry k of A and R, and the bench with it put back
 abbrev pub taken : Bench → ℕ → ℕ → Reach
@@ -93,7 +94,9 @@ bridge At19 w i kind a b = simp (set-getD (w .a) i (halves 0 0), set-getD (w .r)
 bridge At20 w i kind a b = simp (set-getD (w .a) i (halves 0 0), set-getD (w .r) i (halves 0 0))
 
 -- a turn of station i that took out the entry k and moved
-pub step-law : (w : Bench) (i k kind a b : ℕ) (m : Moved) → k ≡ reaching (stationAt w i .place) i (stationAt w i)
-    → m ≡ moveAt (stationAt w i .place) (taken w i k) kind a b → putBack w i k m ≡ stepOf (stationAt w i .place) w i (stationAt w i) kind a b
-step-law w i k kind a b m p q =
-    ap (putBack w i k) q ∙ ap (λ j. putBack w i j (moveAt (stationAt w i .place) (taken w i j) kind a b)) p ∙ bridge (stationAt w i .place) w i kind a b
+pub step-law : (w : Bench) (i k kind a b : ℕ) (m : Moved) → Ready (stationAt w i) → k ≡ reaching (stationAt w i .place) i (stationAt w i)
+    → m ≡ moveOf (taken w i k) kind a b → putBack w i k m ≡ stepOf (stationAt w i .place) w i (stationAt w i) kind a b
+step-law w i k kind a b m h p q =
+    let e : moveOf (taken w i k) kind a b ≡ moveAt (stationAt w i .place) (taken w i k) kind a b = rw (passed (readyRules (stationAt w i)) h) in
+    ap (putBack w i k) (q ∙ e)
+    ∙ ap (λ j. putBack w i j (moveAt (stationAt w i .place) (taken w i j) kind a b)) p ∙ bridge (stationAt w i .place) w i kind a b

@@ -1,26 +1,32 @@
 -- What one turn can reach, and the step table on it: the same rows as in Table, where only that much is carried about. Assumes nothing.
-use mathlib.Core.Bool.{cond, not}
-use Prim.Native.Nat.{ℕ, _+_, _<_, _≤_}
+use mathlib.Core.Bool.{Bool, cond, not}
+use mathlib.Core.List.{List, [], _∷_}
+use Prim.Native.Nat.{ℕ, suc, _+_}
 use lib.Dec.{ltb, eqb}
 use Rattle.card.specs.declared.Halves.{Halves}
 use Rattle.card.specs.declared.Claim.{Claim}
-use Rattle.card.specs.Register.{halves, claim, maxWrite, maxClaim, halfClaim}
+use Rattle.card.specs.Register.{halves, maxWrite, maxClaim, halfClaim}
+use Rattle.rules.specs.Test.{Test, atMost, pass, Facts}
 use Rattle.bench.specs.declared.Place.{Place}
 use Rattle.bench.specs.declared.Place.the-variants.{Rest, At11, At12, At13, At14, At15, At16, At18, At19, At20}
 use Rattle.bench.specs.declared.Station.{Station}
 use Rattle.bench.specs.declared.Answer.{Answer}
 use Rattle.bench.specs.declared.Answer.the-variants.{Idle, Going, Ended, Refused}
-use Rattle.bench.specs.declared.moves.Reach.{Reach}
-use Rattle.bench.specs.declared.moves.Moved.{Moved}
-use Rattle.bench.specs.Record.{call, station, resting}
+use Rattle.bench.specs.declared.Reach.{Reach}
+use Rattle.bench.specs.declared.Moved.{Moved}
+use Rattle.bench.specs.Record.{call, resting}
 use Rattle.bench.specs.Sound.{countLimit, versionLimit}
-use Rattle.bench.specs.Table.{handed, sees, goes, grown, after16}
+use Rattle.bench.specs.Table.{handed, sees, goes, begunWith, grown, after16}
 
 -- what a move asks of its station, and a sound bench gives: its numbers can grow
-pub record Ready (t : Station) : Type 0 where
-  pub own : t .own < 10
-  pub count : t .c ≤ countLimit
-  pub version : t .s ≤ versionLimit
+abbrev pub readyRules : Station → List Test
+readyRules t = atMost (suc (t .own)) 10 ∷ atMost (t .c) countLimit ∷ atMost (t .s) versionLimit ∷ []
+
+abbrev pub ready : Station → Bool
+ready t = pass (readyRules t)
+
+abbrev pub Ready : Station → Type 0
+Ready t = Facts (readyRules t)
 
 -- the entry of A and R that the turn of station i reaches
 unfoldable pub reaching : Place → ℕ → Station → ℕ
@@ -49,7 +55,7 @@ abbrev pub move5 : Reach → ℕ → ℕ → ℕ → Moved
 move5 g kind a b =
     cond (not (eqb (g .v .second) a)) (moved (Ended (handed kind 0 (g .v .second)) 1) g)
     (cond (eqb a b) (moved (Ended (handed kind 1 (g .v .second)) 1) g)
-    (moved Going (still g (station At11 (call kind a b) (g .v .first) 1 (g .station .c) (claim 0 0 0) (halves 0 0)))))
+    (moved Going (still g (begunWith (call kind a b) (g .v .first) (g .station .c)))))
 
 abbrev pub moveRest : Reach → ℕ → ℕ → ℕ → Moved
 moveRest g kind a b =
@@ -110,3 +116,7 @@ moveAt At16 g kind a b = move16 g
 moveAt At18 g kind a b = move18 g
 moveAt At19 g kind a b = move19 g
 moveAt At20 g kind a b = move20 g
+
+-- refused 9, and nothing moved, where the station is not ready
+abbrev pub moveOf : Reach → ℕ → ℕ → ℕ → Moved
+moveOf g kind a b = cond (ready (g .station)) (moveAt (g .station .place) g kind a b) (moved (Refused 9) g)

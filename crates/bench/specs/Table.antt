@@ -8,6 +8,7 @@ use Rattle.card.specs.declared.Claim.{Claim}
 use Rattle.card.specs.Register.{halves, claim, maxWrite, maxClaim, halfClaim}
 use Rattle.bench.specs.declared.Place.{Place}
 use Rattle.bench.specs.declared.Place.the-variants.{Rest, At11, At12, At13, At14, At15, At16, At18, At19, At20}
+use Rattle.bench.specs.declared.Call.{Call}
 use Rattle.bench.specs.declared.Station.{Station}
 use Rattle.bench.specs.declared.Bench.{Bench}
 use Rattle.bench.specs.declared.Answer.{Answer}
@@ -34,8 +35,11 @@ abbrev pub row2 : Bench → Turned
 row2 w = turned (Ended (w .v .second) 1) w
 
 -- 5: read V, s = seq (set, swap); val ≠ a: ends false; a = b: ends true; else 11
+abbrev pub begunWith : Call → ℕ → ℕ → Station
+begunWith o s c = station At11 o s 1 c (claim 0 0 0) (halves 0 0)
+
 abbrev pub begun : Bench → Station → ℕ → ℕ → ℕ → Station
-begun w t kind a b = station At11 (call kind a b) (w .v .first) 1 (t .c) (claim 0 0 0) (halves 0 0)
+begun w t kind a b = begunWith (call kind a b) (w .v .first) (t .c)
 
 unfoldable pub row5 : Bench → ℕ → Station → ℕ → ℕ → ℕ → Turned
 row5 w i t kind a b =

@@ -71,6 +71,21 @@ pub struct Made {
     pub bench: Bench,
 }
 
+// What one turn of station id can reach: V, P, the one entry of A and of R, and the station's record.
+pub struct Reach {
+    pub id: u32,
+    pub v: Halves,
+    pub p: Claim,
+    pub a: Halves,
+    pub r: Halves,
+    pub station: Station,
+}
+
+pub struct Moved {
+    pub answer: Answer,
+    pub reach: Reach,
+}
+
 impl Place {
     // 001's line number; 0 at rest.
     pub fn number(self) -> u32

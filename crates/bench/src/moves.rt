@@ -1,31 +1,17 @@
 // One station's operation, on what one turn can reach. Small values are moved here, and not the bench, so that a turn costs little.
-// A move assumes what a sound bench gives of its station (`Ready`): its numbers can grow without wrapping.
+// The move of a place assumes that its station's numbers can grow without wrapping (`Ready`); `Reach::moved` tests that.
 ghost use mathlib.Core.Path.{_≡_};
-ghost use Rattle.bench.specs.Table.{handed, after16};
-ghost use Rattle.bench.specs.Reach.{Ready, reaching, move5, moveRest, move11, move12, move13, move14, move15, move16, move18, move19, move20, moveAt};
-ghost use Prim.Native.Nat.{_<_};
+ghost use Rattle.bench.specs.Table.{handed, begunWith, after16};
+ghost use Rattle.bench.specs.Reach.{Ready, ready, reaching, move5, moveRest, move11, move12, move13, move14, move15, move16, move18, move19, move20, moveAt, moveOf};
 use crate::Answer;
 use crate::Bench;
 use crate::Call;
+use crate::Moved;
 use crate::Place;
+use crate::Reach;
 use crate::Station;
 use card::Claim;
 use card::Halves;
-
-// V, P, the one entry of A and of R that the turn of station id reaches, and the station's record.
-pub(crate) struct Reach {
-    pub id: u32,
-    pub v: Halves,
-    pub p: Claim,
-    pub a: Halves,
-    pub r: Halves,
-    pub station: Station,
-}
-
-pub(crate) struct Moved {
-    pub answer: Answer,
-    pub reach: Reach,
-}
 
 // What a set or a swap hands back.
 fn handed(kind: u32, truth: u32, read: u32) -> u32
@@ -46,7 +32,7 @@ fn after_16(saw: Claim, entry: Halves) -> Place
 
 impl Station {
     // The entry of A and R that the turn of station i reaches: the saved pid's at 16 and 18, else its own.
-    pub(crate) fn reaches(self, i: u32) -> u32
+    pub fn reaches(self, i: u32) -> u32
         ensures { λ r. ⌜ r ≡ reaching (self .place) i self ⌝ }
     {
         let pid = self.saw.pid;
@@ -62,6 +48,39 @@ impl Station {
             Place::At18 => pid,
             Place::At19 => i,
             Place::At20 => i,
+        }
+    }
+}
+
+impl Station {
+    // Whether the station's numbers can grow by a turn, as those of a sound bench can.
+    fn ready(self) -> bool
+        ensures { λ r. ⌜ r ≡ ready self ⌝ }
+    {
+        (self.own < 10) & ((self.c <= Bench::COUNT) & (self.s <= Bench::VERSION))
+    }
+
+    // A station with the count c that has read the version s at place 5 and goes on.
+    fn begun(call: Call, s: u32, c: u32) -> Station
+        ensures { λ r. ⌜ r ≡ begunWith call s c ⌝ }
+    {
+        let saw = Claim {
+            seq: 0,
+            pid: 0,
+            c: 0,
+        };
+        let entry = Halves {
+            first: 0,
+            second: 0,
+        };
+        Station {
+            place: Place::At11,
+            call,
+            s,
+            own: 1,
+            c,
+            saw,
+            entry,
         }
     }
 }
@@ -87,24 +106,7 @@ impl Reach {
             };
         }
         let call = Call { kind, a, b };
-        let saw = Claim {
-            seq: 0,
-            pid: 0,
-            c: 0,
-        };
-        let entry = Halves {
-            first: 0,
-            second: 0,
-        };
-        let station = Station {
-            place: Place::At11,
-            call,
-            s: v.first,
-            own: 1,
-            c: count,
-            saw,
-            entry,
-        };
+        let station = Station::begun(call, v.first, count);
         self.station = station;
         Moved {
             answer: Answer::Going,
@@ -379,7 +381,7 @@ impl Reach {
     }
 
     // The operation of the place where the station stands.
-    pub(crate) fn moved(self, kind: u32, a: u32, b: u32) -> Moved
+    fn move_at(self, kind: u32, a: u32, b: u32) -> Moved
         requires { ⌜ Ready (self .station) ⌝ }
         ensures { λ r. ⌜ r ≡ moveAt (self .station .place) self kind a b ⌝ }
     {
@@ -397,5 +399,19 @@ impl Reach {
             Place::At19 => self.move_19(),
             Place::At20 => self.move_20(),
         }
+    }
+
+    // One station's move. Refused 9, and nothing moved, where the station is not one of a sound bench by its numbers.
+    pub fn moved(self, kind: u32, a: u32, b: u32) -> Moved
+        ensures { λ r. ⌜ r ≡ moveOf self kind a b ⌝ }
+    {
+        let t = self.station;
+        if !t.ready() {
+            return Moved {
+                answer: Answer::Refused(9),
+                reach: self,
+            };
+        }
+        self.move_at(kind, a, b)
     }
 }

@@ -7,8 +7,8 @@ ghost use Rattle.bench.specs.Sound.{sound};
 ghost use Rattle.bench.specs.Turn.{badOffer, stepOf, turnOf};
 use crate::Answer;
 use crate::Bench;
+use crate::Reach;
 use crate::Turned;
-use crate::moves::Reach;
 
 fn bad_offer(kind: u32, a: u32, b: u32) -> bool
     ensures { λ r. ⌜ r ≡ badOffer kind a b ⌝ }

@@ -10,11 +10,15 @@ use Rattle.card.specs.declared.Claim.{Claim}
 use Rattle.card.specs.Register as Register
 use Rattle.card.specs.Word as Word
 use Rattle.bench.specs.declared.Place.{Place}
+use Rattle.bench.specs.declared.Station.{Station}
+use Rattle.bench.specs.declared.Reach.{Reach}
+use Rattle.bench.specs.declared.Moved.{Moved}
 use Rattle.bench.specs.declared.Bench.{Bench}
 use Rattle.bench.specs.declared.Turned.{Turned}
 use Rattle.bench.specs.declared.Made.{Made}
 use Rattle.bench.specs.Record as Record
 use Rattle.bench.specs.Sound as Sound
+use Rattle.bench.specs.Reach as Reach
 use Rattle.bench.specs.Turn as Turn
 use Rattle.picture.specs.declared.Drawing.{Drawing}
 use Rattle.picture.specs.Picture as Picture
@@ -37,6 +41,8 @@ pub record OneResult : Type 0 where
   pub claimHalfMax : (p : Claim) (f : ℕ) → Unique Claim (λ r. r ≡ Register.halfClaim p f)
   pub claimWord : (p : Claim) → Unique ℕ (λ r. r ≡ Word.claimWord Word.revisionA p)
   pub number : (p : Place) → Unique ℕ (λ r. r ≡ Record.num p)
+  pub reaches : (t : Station) (i : ℕ) → Unique ℕ (λ r. r ≡ Reach.reaching (t .place) i t)
+  pub moved : (g : Reach) (kind a b : ℕ) → Unique Moved (λ r. r ≡ Reach.moveOf g kind a b)
   pub fresh : (x n : ℕ) → Unique Made (λ r. r ≡ Turn.freshOf x n)
   pub sound : (w : Bench) → Unique Bool (λ r. r ≡ Sound.sound w)
   pub turn : (w : Bench) (i kind a b : ℕ) → Unique Turned (λ r. r ≡ Turn.turnOf w i kind a b)

@@ -109,11 +109,14 @@ fn offer(label: &[u8], w: Bench, station: u32, kind: u32, a: u32, b: u32) {
     tell(label, answer);
 }
 
-fn limits() {
+fn fresh_benches() {
     made(b"fresh, n 0", 7, 0);
     made(b"fresh, n 1", 7, 1);
     made(b"fresh, n 32", 7, 32);
     made(b"fresh, n 33", 7, 33);
+}
+
+fn counts() {
     offer(b"c 65,534, set 7 8", with_count(65534), 1, 1, 7, 8);
     offer(b"c 65,535, set 7 8", with_count(65535), 1, 1, 7, 8);
     offer(
@@ -127,6 +130,9 @@ fn limits() {
     offer(b"c 65,535, swap 7 8", with_count(65535), 1, 2, 7, 8);
     offer(b"c 65,535, read", with_count(65535), 1, 0, 0, 0);
     offer(b"c 65,536, read", with_count(65536), 1, 0, 0, 0);
+}
+
+fn versions() {
     offer(
         b"V.seq 4,294,967,292, set 7 8",
         with_version(4294967292),
@@ -243,7 +249,9 @@ fn pictures() {
 }
 
 fn main() {
-    limits();
+    fresh_benches();
+    counts();
+    versions();
     stations_and_kinds();
     in_a_call();
     pictures();

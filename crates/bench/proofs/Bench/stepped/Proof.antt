@@ -22,9 +22,7 @@ stepped-spec =
     (λ c. entry-within (c .before .before))
     (λ c. search needs)
     (λ c. entry-within (c .before .before .before))
-    (λ c κs.
-    let s = c .before .before .before .before .before .before in
-    ready-at (s .args .t1) (s .args .i) (s .pre .1) (s .pre .0))
+    (λ c κs. search needs)
     (λ c. search needs)
     (λ c. entry-within (c .before .before .before .before .before .before .before .before .before .before .before))
     (λ c. search needs)
@@ -34,5 +32,7 @@ stepped-spec =
     (λ c.
     let m = c .before .before .before .before .before .before in
     let e = m .before .before .before .before .before in
-    let s = e .before .before .args in
-    step-law (s .t1) (s .i) (e .reaches .result) (s .kind) (s .a) (s .b) (m .moved .result) (e .reaches .ensures) (m .moved .ensures)))
+    let s = e .before .before in
+    let a = s .args in
+    step-law (a .t1) (a .i) (e .reaches .result) (a .kind) (a .a) (a .b) (m .moved .result) (ready-at (a .t1) (a .i) (s .pre .1) (s .pre .0)) (e .reaches .ensures)
+    (m .moved .ensures)))
