@@ -4,25 +4,48 @@ use mathlib.Core.List.{[], _∷_}
 use mathlib.Core.Bool.{Bool, true, false, cond, not, _&&_, _||_}
 use Prim.Native.Nat.{ℕ}
 use lib.Dec.{eqb, ltb}
-use lib.ListN.{getD, set}
+use lib.ListN.{set}
 use lib.Seq.{set-getD}
-use Rattle.card.specs.Register.{halves}
 use Rattle.rules.specs.Refusal.{refusal, refusalOf}
 use Rattle.rules.proofs.Facts.{passed}
-use Rattle.bench.specs.declared.Place.{Place}
-use Rattle.bench.specs.declared.Place.the-variants.{Rest, At11, At12, At13, At14, At15, At16, At18, At19, At20}
-use Rattle.bench.specs.declared.Station.{Station}
+use Rattle.card.specs.Register.{halves}
+use Rattle.method.specs.declared.Place.{Place}
+use Rattle.method.specs.declared.Place.the-variants.{Rest, At11, At12, At13, At14, At15, At16, At18, At19, At20}
+use Rattle.method.specs.declared.Station.{Station}
+use Rattle.method.specs.declared.Answer.{Answer}
+use Rattle.method.specs.declared.Answer.the-variants.{Idle, Going, Ended, Refused}
+use Rattle.method.specs.Record.{call, resting}
+use Rattle.method.specs.Table.{Access, handed, begun, row2, row5, row}
 use Rattle.bench.specs.declared.Bench.{Bench}
-use Rattle.bench.specs.declared.Answer.{Answer}
-use Rattle.bench.specs.declared.Answer.the-variants.{Idle, Going, Ended, Refused}
 use Rattle.bench.specs.declared.Turned.{Turned}
 use Rattle.bench.specs.declared.Reach.{Reach}
 use Rattle.bench.specs.declared.Moved.{Moved}
-use Rattle.bench.specs.Record.{resting, stationAt, aAt, rAt, putStation}
+use Rattle.bench.specs.Record.{stationAt, aAt, rAt, putStation, turned, onBench}
 use Rattle.bench.specs.Sound.{countLimit, versionLimit}
-use Rattle.bench.specs.Table.{turned, handed, begun, row2, row5, rowRest, row}
 use Rattle.bench.specs.Turn.{orRefused, stepOf}
-use Rattle.bench.specs.Reach.{readyRules, Ready, reaching, reach, moved, still, move5, moveAt, moveOf}
+use Rattle.bench.specs.Reach.{readyRules, Ready, reaching, reach, moved, onReach, moveOf}
+
+-- a station at rest, in the order in which the code looks at it: the offer's kind, then 12, then 13
+module _ {W Out : Type 0} (on : Access W Out) (w : W) (i : ℕ) (t : Station) (kind a b : ℕ) where
+  abbrev pub restInOrder : Bool → Bool → Bool → Bool → Out
+  restInOrder none reads full late =
+      cond none (on .give Idle w)
+      (cond reads (row2 on w i) (cond full (on .give (Refused 12) w) (cond late (on .give (Refused 13) w) (row5 on w i t kind a b))))
+
+  in-order : (none reads full late : Bool)
+      → orRefused on (refusalOf (refusal 12 (not (reads || none) && full) ∷ refusal 13 (not (reads || none) && late) ∷ [])) w
+      (cond none (on .give Idle w) (cond reads (row2 on w i) (row5 on w i t kind a b)))
+      ≡ restInOrder none reads full late
+  in-order true true full late = refl
+  in-order true false full late = refl
+  in-order false true full late = refl
+  in-order false false true late = refl
+  in-order false false false true = refl
+  in-order false false false false = refl
+
+  pub rest-law : stepOf on Rest w i t kind a b ≡ restInOrder (eqb kind 3) (eqb kind 0) (eqb (t .c) countLimit) (ltb versionLimit (on .v w i .first))
+  unfolding stepOf row
+  rest-law = in-order (eqb kind 3) (eqb kind 0) (eqb (t .c) countLimit) (ltb versionLimit (on .v w i .first))
 
 -- what the turn of station i takes out, with the entry k of A and R, and the bench with it put back
 abbrev pub taken : Bench → ℕ → ℕ → Reach
@@ -40,63 +63,55 @@ putBack w i k m =
       stations = set (w .stations) i (m .reach .station);
     })
 
-abbrev movedBack : Place → Bench → ℕ → ℕ → ℕ → ℕ → Turned
-movedBack p w i kind a b =
-    let k = reaching p i (stationAt w i) in
-    putBack w i k (moveAt p (taken w i k) kind a b)
-
--- nothing moved
-unmoved : (w : Bench) (i : ℕ) (x : Answer) → putBack w i i (moved x (taken w i i)) ≡ turned x w
-unmoved w i x = simp (set-getD (w .a) i (halves 0 0), set-getD (w .r) i (halves 0 0), set-getD (w .stations) i (resting 0))
-
-module _ (w : Bench) (i kind a b : ℕ) where
+module _ (w : Bench) (i : ℕ) where
   abbrev t : Station
   t = stationAt w i
 
+  -- nothing moved
+  unmoved : (x : Answer) → putBack w i i (moved x (taken w i i)) ≡ turned x w
+  unmoved x = simp (set-getD (w .a) i (halves 0 0), set-getD (w .r) i (halves 0 0), set-getD (w .stations) i (resting 0))
+
   -- place 5, by its two tests
-  five : (other same : Bool)
+  five : (kind a b : ℕ) (other same : Bool)
       → putBack w i i
       (cond other (moved (Ended (handed kind 0 (w .v .second)) 1) (taken w i i))
-      (cond same (moved (Ended (handed kind 1 (w .v .second)) 1) (taken w i i)) (moved Going (still (taken w i i) (begun w t kind a b)))))
+      (cond same (moved (Ended (handed kind 1 (w .v .second)) 1) (taken w i i))
+      (moved Going (onReach .putStation i (begun (call kind a b) (w .v .first) (t .c)) (taken w i i)))))
       ≡ cond other (turned (Ended (handed kind 0 (w .v .second)) 1) w)
-      (cond same (turned (Ended (handed kind 1 (w .v .second)) 1) w) (turned Going (putStation i (begun w t kind a b) w)))
-  five true same = unmoved w i (Ended (handed kind 0 (w .v .second)) 1)
-  five false true = unmoved w i (Ended (handed kind 1 (w .v .second)) 1)
-  five false false = simp (set-getD (w .a) i (halves 0 0), set-getD (w .r) i (halves 0 0))
+      (cond same (turned (Ended (handed kind 1 (w .v .second)) 1) w) (turned Going (putStation i (begun (call kind a b) (w .v .first) (t .c)) w)))
+  five kind a b true same = unmoved (Ended (handed kind 0 (w .v .second)) 1)
+  five kind a b false true = unmoved (Ended (handed kind 1 (w .v .second)) 1)
+  five kind a b false false = simp (set-getD (w .a) i (halves 0 0), set-getD (w .r) i (halves 0 0))
 
-  -- a station at rest, by the offer's kind and refusals 12 and 13
-  rest : (none reads full late : Bool)
-      → putBack w i i
-      (cond none (moved Idle (taken w i i))
-      (cond reads (moved (Ended (w .v .second) 1) (taken w i i))
-      (cond full (moved (Refused 12) (taken w i i)) (cond late (moved (Refused 13) (taken w i i)) (move5 (taken w i i) kind a b)))))
-      ≡ orRefused (refusalOf (refusal 12 (not (reads || none) && full) ∷ refusal 13 (not (reads || none) && late) ∷ [])) w
-      (cond none (turned Idle w) (cond reads (row2 w) (row5 w i t kind a b)))
-  unfolding row5
-  rest true true full late = unmoved w i Idle
-  rest true false full late = unmoved w i Idle
-  rest false true full late = unmoved w i (Ended (w .v .second) 1)
-  rest false false true late = unmoved w i (Refused 12)
-  rest false false false true = unmoved w i (Refused 13)
-  rest false false false false = five (not (eqb (w .v .second) a)) (eqb a b)
+  rest : (kind a b : ℕ) (none reads full late : Bool)
+      → putBack w i i (restInOrder onReach (taken w i i) i t kind a b none reads full late) ≡ restInOrder onBench w i t kind a b none reads full late
+  rest kind a b true reads full late = unmoved Idle
+  rest kind a b false true full late = unmoved (Ended (w .v .second) 1)
+  rest kind a b false false true late = unmoved (Refused 12)
+  rest kind a b false false false true = unmoved (Refused 13)
+  rest kind a b false false false false = five kind a b (not (eqb (w .v .second) a)) (eqb a b)
 
-bridge : (p : Place) (w : Bench) (i kind a b : ℕ) → movedBack p w i kind a b ≡ stepOf p w i (stationAt w i) kind a b
-unfolding reaching moveAt stepOf row rowRest
-bridge Rest w i kind a b = rest w i kind a b (eqb kind 3) (eqb kind 0) (eqb (stationAt w i .c) countLimit) (ltb versionLimit (w .v .first))
-bridge At11 w i kind a b = simp (set-getD (w .r) i (halves 0 0))
-bridge At12 w i kind a b = simp (set-getD (w .a) i (halves 0 0))
-bridge At13 w i kind a b = simp (set-getD (w .a) i (halves 0 0), set-getD (w .r) i (halves 0 0))
-bridge At14 w i kind a b = simp (set-getD (w .a) i (halves 0 0), set-getD (w .r) i (halves 0 0))
-bridge At15 w i kind a b = simp (set-getD (w .a) i (halves 0 0), set-getD (w .r) i (halves 0 0))
-bridge At16 w i kind a b = simp (set-getD (w .a) (stationAt w i .saw .pid) (halves 0 0), set-getD (w .r) (stationAt w i .saw .pid) (halves 0 0))
-bridge At18 w i kind a b = simp (set-getD (w .a) (stationAt w i .saw .pid) (halves 0 0))
-bridge At19 w i kind a b = simp (set-getD (w .a) i (halves 0 0), set-getD (w .r) i (halves 0 0))
-bridge At20 w i kind a b = simp (set-getD (w .a) i (halves 0 0), set-getD (w .r) i (halves 0 0))
+  -- the entries that a turn did not change vanish
+  bridge : (p : Place) (kind a b : ℕ)
+      → putBack w i (reaching p i t) (stepOf onReach p (taken w i (reaching p i t)) i t kind a b) ≡ stepOf onBench p w i t kind a b
+  unfolding reaching stepOf row
+  bridge Rest kind a b =
+      ap (putBack w i i) (rest-law onReach (taken w i i) i t kind a b)
+      ∙ rest kind a b (eqb kind 3) (eqb kind 0) (eqb (t .c) countLimit) (ltb versionLimit (w .v .first)) ∙ sym (rest-law onBench w i t kind a b)
+  bridge At11 kind a b = simp (set-getD (w .r) i (halves 0 0))
+  bridge At12 kind a b = simp (set-getD (w .a) i (halves 0 0))
+  bridge At13 kind a b = simp (set-getD (w .a) i (halves 0 0), set-getD (w .r) i (halves 0 0))
+  bridge At14 kind a b = simp (set-getD (w .a) i (halves 0 0), set-getD (w .r) i (halves 0 0))
+  bridge At15 kind a b = simp (set-getD (w .a) i (halves 0 0), set-getD (w .r) i (halves 0 0))
+  bridge At16 kind a b = simp (set-getD (w .a) (t .saw .pid) (halves 0 0), set-getD (w .r) (t .saw .pid) (halves 0 0))
+  bridge At18 kind a b = simp (set-getD (w .a) (t .saw .pid) (halves 0 0))
+  bridge At19 kind a b = simp (set-getD (w .a) i (halves 0 0), set-getD (w .r) i (halves 0 0))
+  bridge At20 kind a b = simp (set-getD (w .a) i (halves 0 0), set-getD (w .r) i (halves 0 0))
 
--- a turn of station i that took out the entry k and moved
-pub step-law : (w : Bench) (i k kind a b : ℕ) (m : Moved) → Ready (stationAt w i) → k ≡ reaching (stationAt w i .place) i (stationAt w i)
-    → m ≡ moveOf (taken w i k) kind a b → putBack w i k m ≡ stepOf (stationAt w i .place) w i (stationAt w i) kind a b
-step-law w i k kind a b m h p q =
-    let e : moveOf (taken w i k) kind a b ≡ moveAt (stationAt w i .place) (taken w i k) kind a b = rw (passed (readyRules (stationAt w i)) h) in
-    ap (putBack w i k) (q ∙ e)
-    ∙ ap (λ j. putBack w i j (moveAt (stationAt w i .place) (taken w i j) kind a b)) p ∙ bridge (stationAt w i .place) w i kind a b
+  -- a turn of station i that took out the entry k and moved
+  pub step-law : (k kind a b : ℕ) (m : Moved) → Ready t → k ≡ reaching (t .place) i t → m ≡ moveOf (taken w i k) kind a b
+      → putBack w i k m ≡ stepOf onBench (t .place) w i t kind a b
+  unfolding moveOf
+  step-law k kind a b m h p q =
+      let e : moveOf (taken w i k) kind a b ≡ stepOf onReach (t .place) (taken w i k) i t kind a b = rw (passed (readyRules t) h) in
+      ap (putBack w i k) (q ∙ e) ∙ ap (λ j. putBack w i j (stepOf onReach (t .place) (taken w i j) i t kind a b)) p ∙ bridge (t .place) kind a b

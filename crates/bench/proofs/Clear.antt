@@ -12,17 +12,18 @@ use Rattle.rules.specs.Test.{When}
 use Rattle.rules.proofs.Exactly.{exactly}
 use Rattle.rules.proofs.Facts.{either-way, or-none}
 use Rattle.card.specs.Register.{halves}
-use Rattle.bench.specs.declared.Place.{Place}
-use Rattle.bench.specs.declared.Place.the-variants.{Rest, At11, At12, At13, At14, At15, At16, At18, At19, At20}
-use Rattle.bench.specs.declared.Station.{Station}
+use Rattle.method.specs.declared.Place.{Place}
+use Rattle.method.specs.declared.Place.the-variants.{Rest, At11, At12, At13, At14, At15, At16, At18, At19, At20}
+use Rattle.method.specs.declared.Station.{Station}
 use Rattle.bench.specs.declared.Bench.{Bench}
 use Rattle.bench.specs.declared.Turned.{Turned}
-use Rattle.bench.specs.declared.Answer.{Answer}
-use Rattle.bench.specs.declared.Answer.the-variants.{Idle, Going, Ended, Refused}
-use Rattle.bench.specs.Record.{blank, resting, stationAt, putStation}
+use Rattle.method.specs.declared.Answer.{Answer}
+use Rattle.method.specs.declared.Answer.the-variants.{Idle, Going, Ended, Refused}
+use Rattle.method.specs.Record.{told, call}
+use Rattle.method.specs.Table.{handed, begun, row}
+use Rattle.bench.specs.Record.{stationAt, putStation, turned, onBench}
 use Rattle.bench.specs.Sound.{countLimit, versionLimit, stationLimit, sound}
-use Rattle.bench.specs.Table.{turned, handed, begun, row2, row5, rowRest, row}
-use Rattle.bench.specs.Turn.{told, badStation, badOffer, wouldBegin, orRefused, turnRefusals, turnOf, freshOf}
+use Rattle.bench.specs.Turn.{wouldBegin, orRefused, turnRefusals, turnOf}
 use Rattle.bench.specs.Promise.{Turn, turnBy, RefusesExactly}
 use Rattle.bench.proofs.Sounds.{Sound, facts, holds}
 use Rattle.bench.proofs.Kept.{row-sound}
@@ -36,10 +37,10 @@ none-refused false false true same w x v y z = refl
 none-refused false false false true w x v y z = refl
 none-refused false false false false w x v y z = refl
 
-row-answers : (p : Place) (w : Bench) (i : ℕ) (t : Station) (kind a b : ℕ) → told (row p w i t kind a b .answer) .refusal ≡ 0
-unfolding row rowRest row5
+row-answers : (p : Place) (w : Bench) (i : ℕ) (t : Station) (kind a b : ℕ) → told (row onBench p w i t kind a b .answer) .refusal ≡ 0
+unfolding row
 row-answers Rest w i t kind a b =
-    none-refused (eqb kind 3) (eqb kind 0) (not (eqb (w .v .second) a)) (eqb a b) w (putStation i (begun w t kind a b) w) (w .v .second)
+    none-refused (eqb kind 3) (eqb kind 0) (not (eqb (w .v .second) a)) (eqb a b) w (putStation i (begun (call kind a b) (w .v .first) (t .c)) w) (w .v .second)
     (handed kind 0 (w .v .second)) (handed kind 1 (w .v .second))
 row-answers At11 w i t kind a b = refl
 row-answers At12 w i t kind a b = refl
@@ -52,10 +53,10 @@ row-answers At19 w i t kind a b = refl
 row-answers At20 w i t kind a b = refl
 
 -- refused with a number, or the row
-refused-or : (number : ℕ) (w : Bench) (x : Turned) → told (x .answer) .refusal ≡ 0 → told (orRefused number w x .answer) .refusal ≡ number
+refused-or : (number : ℕ) (w : Bench) (x : Turned) → told (x .answer) .refusal ≡ 0 → told (orRefused onBench number w x .answer) .refusal ≡ number
 refused-or number w x h = either-way (eqb number 0) (λ e. rw e (h ∙ sym (eqb-true number 0 e))) (λ e. rw e)
 
-refused-same : (number : ℕ) (w : Bench) (x : Turned) → (number ≡ 0 → ⊥) → orRefused number w x .bench ≡ w
+refused-same : (number : ℕ) (w : Bench) (x : Turned) → (number ≡ 0 → ⊥) → orRefused onBench number w x .bench ≡ w
 refused-same number w x h = rw (ne-eqb number 0 h)
 
 pub refuses-exactly : RefusesExactly
@@ -63,7 +64,7 @@ unfolding RefusesExactly turnOf Exact
 refuses-exactly w u =
     let i = u .station in
     let rs = turnRefusals w i (u .kind) (u .a) (u .b) in
-    let x = row (stationAt w i .place) w i (stationAt w i) (u .kind) (u .a) (u .b) in
+    let x = row onBench (stationAt w i .place) w i (stationAt w i) (u .kind) (u .a) (u .b) in
     let q = refused-or (refusalOf rs) w x (row-answers (stationAt w i .place) w i (stationAt w i) (u .kind) (u .a) (u .b)) in
     record { number = q; exactly = exactly rs refl; same = λ h. refused-same (refusalOf rs) w x (λ e. h (q ∙ e)) }
 

@@ -16,14 +16,15 @@ use Rattle.card.specs.declared.Claim.{Claim}
 use Rattle.card.specs.Register.{halves, claim, atLeast, maxWrite, maxClaim}
 use Rattle.rules.specs.Test.{When, AllKept}
 use Rattle.rules.proofs.Facts.{either-way, and-left, and-right}
-use Rattle.bench.specs.declared.Place.{Place}
-use Rattle.bench.specs.declared.Place.the-variants.{Rest, At11, At12, At13, At14, At15, At16, At18, At19, At20}
-use Rattle.bench.specs.declared.Station.{Station}
+use Rattle.method.specs.declared.Place.{Place}
+use Rattle.method.specs.declared.Place.the-variants.{Rest, At11, At12, At13, At14, At15, At16, At18, At19, At20}
+use Rattle.method.specs.declared.Station.{Station}
 use Rattle.bench.specs.declared.Bench.{Bench}
-use Rattle.bench.specs.declared.Answer.the-variants.{Idle, Going, Ended}
-use Rattle.bench.specs.Record.{resting, stationAt, aAt, rAt, putStation, putP}
+use Rattle.method.specs.declared.Answer.the-variants.{Idle, Going, Ended}
+use Rattle.method.specs.Record.{call, resting}
+use Rattle.method.specs.Table.{handed, sees, goes, begun, grown, row2, row5, row11, row12, row13, row14, row15, row16, row18, row19, row20, row}
+use Rattle.bench.specs.Record.{stationAt, aAt, rAt, putStation, putP, turned, onBench}
 use Rattle.bench.specs.Sound.{versionLimit, headRules, aRules, rRules}
-use Rattle.bench.specs.Table.{turned, handed, sees, goes, begun, grown, row2, row5, row11, row12, row13, row14, row15, row16, row18, row19, row20, rowRest, row}
 use Rattle.bench.specs.Turn.{wouldBegin}
 use Rattle.bench.proofs.Sounds.{Stands, StationKept, Sound}
 
@@ -106,24 +107,24 @@ module _ (limit : ℕ) (w : Bench) (i : ℕ) (s : Sound limit w) (low : 1 ≤ i)
   p-put p h = (s .head .0, ((h .0, tt), (s .head .1 .1 .0, ((h .1, tt), tt))))
 
   -- the rows
-  row-11 : Stands limit (w .n) At11 t → Sound limit (row11 w i t .bench)
+  row-11 : Stands limit (w .n) At11 t → Sound limit (row11 onBench w i t .bench)
   row-11 k =
       record { head = s .head; a = a-put (halves (t .c + 1) (t .call .b)) (omega (arith, k .room .0)); r = s .r; station = station-put (grown t) (to12 limit (w .n) t k) }
 
-  row-12 : Stands limit (w .n) At12 t → Sound limit (row12 w i t .bench)
+  row-12 : Stands limit (w .n) At12 t → Sound limit (row12 onBench w i t .bench)
   row-12 k =
       record { head = s .head; a = s .a; r = r-put i high (halves (t .c) 0) (k .count) (omega arith); station = station-put (goes t At13) (to13 limit (w .n) t k) }
 
-  row-13 : Stands limit (w .n) At13 t → Sound limit (row13 w i t .bench)
+  row-13 : Stands limit (w .n) At13 t → Sound limit (row13 onBench w i t .bench)
   unfolding ClaimFits
   row-13 k =
       let fits = chosen (ClaimFits limit (w .n)) (atLeast (t .s + 1) (w .p .seq)) (claim (t .s + 1) i (t .c)) (w .p) (k .count, high) (s .head .1 .0 .0, s .head .1 .1 .1 .0 .0) in
       record { head = p-put (maxClaim (w .p) (t .s + 1) i (t .c)) fits; a = s .a; r = s .r; station = station-put (goes t At14) (to14 limit (w .n) t k) }
 
-  row-14 : Stands limit (w .n) At14 t → Sound limit (row14 w i t .bench)
+  row-14 : Stands limit (w .n) At14 t → Sound limit (row14 onBench w i t .bench)
   row-14 k = record { head = s .head; a = s .a; r = s .r; station = station-put (goes t At15) (to15 limit (w .n) t k) }
 
-  row-15 : Stands limit (w .n) At15 t → Sound limit (row15 w i t .bench)
+  row-15 : Stands limit (w .n) At15 t → Sound limit (row15 onBench w i t .bench)
   row-15 k =
       record {
         head = s .head;
@@ -132,7 +133,7 @@ module _ (limit : ℕ) (w : Bench) (i : ℕ) (s : Sound limit w) (low : 1 ≤ i)
         station = station-put (sees t At16 (w .p) (t .entry)) (to16 limit (w .n) t (w .p) (s .head .1 .0 .0) (s .head .1 .1 .1 .0 .0) k);
       }
 
-  row-16 : Stands limit (w .n) At16 t → Sound limit (row16 w i t .bench)
+  row-16 : Stands limit (w .n) At16 t → Sound limit (row16 onBench w i t .bench)
   row-16 k =
       let e = aAt w (t .saw .pid) in
       let h : e .first ≤ limit = s .a (t .saw .pid) (omega (arith, k .call .1 .1 .1 .1 .0, s .head .0 .1 .0)) .0 .0 in
@@ -151,7 +152,7 @@ module _ (limit : ℕ) (w : Bench) (i : ℕ) (s : Sound limit w) (low : 1 ≤ i)
             (λ q. rw q (station-put (sees t At20 (t .saw) e) (past18 limit (w .n) t e h k)));
       }
 
-  row-18 : Stands limit (w .n) At18 t → Sound limit (row18 w i t .bench)
+  row-18 : Stands limit (w .n) At18 t → Sound limit (row18 onBench w i t .bench)
   row-18 k =
       let j = t .saw .pid in
       let old = s .r j (omega (arith, k .call .1 .1 .1 .1 .0, s .head .0 .1 .0)) in
@@ -164,7 +165,7 @@ module _ (limit : ℕ) (w : Bench) (i : ℕ) (s : Sound limit w) (low : 1 ≤ i)
         station = station-put (goes t At19) (to19 limit (w .n) t k);
       }
 
-  row-19 : Stands limit (w .n) At19 t → Sound limit (row19 w i t .bench)
+  row-19 : Stands limit (w .n) At19 t → Sound limit (row19 onBench w i t .bench)
   row-19 k =
       let v = chosen (λ (x : Halves). x .first % 2 ≡ 0) (atLeast (t .saw .seq) (w .v .first)) (halves (t .saw .seq) (t .entry .second)) (w .v) (k .agreed .0) (s .head .1 .1 .0 .0) in
       record {
@@ -174,25 +175,24 @@ module _ (limit : ℕ) (w : Bench) (i : ℕ) (s : Sound limit w) (low : 1 ≤ i)
         station = station-put (goes t At20) (to20 limit (w .n) t k);
       }
 
-  row-20 : Stands limit (w .n) At20 t → Sound limit (row20 w i t .bench)
+  row-20 : Stands limit (w .n) At20 t → Sound limit (row20 onBench w i t .bench)
   row-20 k = record { head = s .head; a = s .a; r = s .r; station = station-put (resting (t .c)) (to-rest limit (w .n) t At20 k) }
 
   -- a station at rest that begins a set or swap, or ends it at once
   row-5 : (kind a b : ℕ) → (kind ≡ 1) ⊎ (kind ≡ 2) → suc (t .c) ≤ limit → w .v .first ≤ versionLimit → (other same : Bool) → eqb a b ≡ same
       → Sound limit
       (cond other (turned (Ended (handed kind 0 (w .v .second)) 1) w)
-      (cond same (turned (Ended (handed kind 1 (w .v .second)) 1) w) (turned Going (putStation i (begun w t kind a b) w))) .bench)
+      (cond same (turned (Ended (handed kind 1 (w .v .second)) 1) w) (turned Going (putStation i (begun (call kind a b) (w .v .first) (t .c)) w))) .bench)
   row-5 kind a b k c v true same e = s
   row-5 kind a b k c v false true e = s
   row-5 kind a b k c v false false e =
       let d = eqb-false a b e in
       let even = s .head .1 .1 .0 .0 in
-      record { head = s .head; a = s .a; r = s .r; station = station-put (begun w t kind a b) (search needs) }
+      record { head = s .head; a = s .a; r = s .r; station = station-put (begun (call kind a b) (w .v .first) (t .c)) (search needs) }
 
   row-rest : (kind a b : ℕ) → kind ≤ 3 → Stands limit (w .n) Rest t → (none reads : Bool) → eqb kind 3 ≡ none → eqb kind 0 ≡ reads
       → (not (reads || none) && eqb (t .c) limit) ≡ false → (not (reads || none) && ltb versionLimit (w .v .first)) ≡ false
-      → Sound limit (cond none (turned Idle w) (cond reads (row2 w) (row5 w i t kind a b)) .bench)
-  unfolding row5
+      → Sound limit (cond none (turned Idle w) (cond reads (row2 onBench w i) (row5 onBench w i t kind a b)) .bench)
   row-rest kind a b h k true reads e3 e0 full late = s
   row-rest kind a b h k false true e3 e0 full late = s
   row-rest kind a b h k false false e3 e0 full late =
@@ -204,8 +204,8 @@ module _ (limit : ℕ) (w : Bench) (i : ℕ) (s : Sound limit w) (low : 1 ≤ i)
       (not (eqb (w .v .second) a)) (eqb a b) refl
 
   pub row-sound : (p : Place) (kind a b : ℕ) → kind ≤ 3 → Stands limit (w .n) p t → (wouldBegin p kind && eqb (t .c) limit) ≡ false
-      → (wouldBegin p kind && ltb versionLimit (w .v .first)) ≡ false → Sound limit (row p w i t kind a b .bench)
-  unfolding row rowRest
+      → (wouldBegin p kind && ltb versionLimit (w .v .first)) ≡ false → Sound limit (row onBench p w i t kind a b .bench)
+  unfolding row
   row-sound Rest kind a b h k full late = row-rest kind a b h k (eqb kind 3) (eqb kind 0) refl refl full late
   row-sound At11 kind a b h k full late = row-11 k
   row-sound At12 kind a b h k full late = row-12 k

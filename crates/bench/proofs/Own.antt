@@ -11,17 +11,18 @@ use lib.ListN.{getD, set, length, length-set}
 use lib.Seq.{getD-set-same, getD-set-other}
 use Rattle.rules.specs.Refusal.{refusalOf}
 use Rattle.rules.proofs.Facts.{either-way}
-use Rattle.bench.specs.declared.Place.{Place}
-use Rattle.bench.specs.declared.Place.the-variants.{Rest, At11, At12, At13, At14, At15, At16, At18, At19, At20}
-use Rattle.bench.specs.declared.Station.{Station}
+use Rattle.method.specs.declared.Place.{Place}
+use Rattle.method.specs.declared.Place.the-variants.{Rest, At11, At12, At13, At14, At15, At16, At18, At19, At20}
+use Rattle.method.specs.declared.Station.{Station}
 use Rattle.bench.specs.declared.Bench.{Bench}
 use Rattle.bench.specs.declared.Turned.{Turned}
-use Rattle.bench.specs.declared.Answer.{Answer}
-use Rattle.bench.specs.declared.Answer.the-variants.{Idle, Going, Ended, Refused}
-use Rattle.bench.specs.Record.{resting, stationAt, putStation}
+use Rattle.method.specs.declared.Answer.{Answer}
+use Rattle.method.specs.declared.Answer.the-variants.{Idle, Going, Ended, Refused}
+use Rattle.method.specs.Record.{told, call, resting}
+use Rattle.method.specs.Table.{handed, sees, goes, begun, grown, row2, row}
+use Rattle.bench.specs.Record.{stationAt, putStation, turned, onBench}
 use Rattle.bench.specs.Sound.{countLimit, sound}
-use Rattle.bench.specs.Table.{turned, handed, sees, goes, begun, grown, after16, row2, row5, rowRest, row}
-use Rattle.bench.specs.Turn.{Told, told, turnRefusals, orRefused, turnOf}
+use Rattle.bench.specs.Turn.{turnRefusals, turnOf}
 use Rattle.bench.specs.Promise.{Turn, turnBy, after, counted, operations, OwnTurns, OwnTurnsCount}
 use Rattle.bench.proofs.Sounds.{Stands, facts}
 use Rattle.bench.proofs.Clear.{clear}
@@ -91,15 +92,15 @@ module _ (limit : ℕ) (w : Bench) (u : Turn) (inside : u .station < length (w .
   begins : (none reads other same : Bool) (kind a b y z : ℕ) → t .own ≡ 0
       → Counts w u
       (cond none (turned Idle w)
-      (cond reads (row2 w) (cond other (turned (Ended y 1) w) (cond same (turned (Ended z 1) w) (turned Going (putStation (u .station) (begun w t kind a b) w))))))
+      (cond reads (row2 onBench w (u .station)) (cond other (turned (Ended y 1) w) (cond same (turned (Ended z 1) w) (turned Going (putStation (u .station) (begun (call kind a b) (w .v .first) (t .c)) w))))))
   begins true reads other same kind a b y z e = idles
   begins false true other same kind a b y z e = at-once (w .v .second) e
   begins false false true same kind a b y z e = at-once y e
   begins false false false true kind a b y z e = at-once z e
-  begins false false false false kind a b y z e = goes-on w (begun w t kind a b) refl (omega arith) (omega arith)
+  begins false false false false kind a b y z e = goes-on w (begun (call kind a b) (w .v .first) (t .c)) refl (omega arith) (omega arith)
 
-  counts : (p : Place) → Stands limit (w .n) p t → Counts w u (row p w (u .station) t (u .kind) (u .a) (u .b))
-  unfolding row rowRest row5
+  counts : (p : Place) → Stands limit (w .n) p t → Counts w u (row onBench p w (u .station) t (u .kind) (u .a) (u .b))
+  unfolding row
   counts Rest k =
       begins (eqb (u .kind) 3) (eqb (u .kind) 0) (not (eqb (w .v .second) (u .a))) (eqb (u .a) (u .b)) (u .kind) (u .a) (u .b) (handed (u .kind) 0 (w .v .second))
       (handed (u .kind) 1 (w .v .second)) (k .own)

@@ -12,7 +12,8 @@ use Rattle.rules.specs.Refusal.{refusalOf}
 use Rattle.rules.specs.Test.{When}
 use Rattle.rules.proofs.Facts.{either-way, or-none}
 use Rattle.bench.specs.declared.Bench.{Bench}
-use Rattle.bench.specs.Record.{blank, resting, stationAt}
+use Rattle.method.specs.Record.{resting}
+use Rattle.bench.specs.Record.{blank, stationAt}
 use Rattle.bench.specs.Sound.{countLimit, stationLimit, sound}
 use Rattle.bench.specs.Turn.{turnRefusals, turnOf, freshOf}
 use Rattle.bench.specs.Promise.{Turn, turnBy, KeptSound}

@@ -6,9 +6,9 @@ use Prim.Native.Nat.{ℕ, _<_, _≤_}
 use native.Mathlib.Omega.{arith}
 use Rattle.rules.specs.Test.{Says, Kept, AllKept, allKept}
 use Rattle.rules.proofs.Facts.{and-left, and-right, and-both, all-keep, all-kept}
-use Rattle.bench.specs.declared.Place.{Place}
-use Rattle.bench.specs.declared.Place.the-variants.{Rest, At11, At12, At13, At14, At15, At16, At18, At19, At20}
-use Rattle.bench.specs.declared.Station.{Station}
+use Rattle.method.specs.declared.Place.{Place}
+use Rattle.method.specs.declared.Place.the-variants.{Rest, At11, At12, At13, At14, At15, At16, At18, At19, At20}
+use Rattle.method.specs.declared.Station.{Station}
 use Rattle.bench.specs.declared.Bench.{Bench}
 use Rattle.bench.specs.Record.{stationAt, aAt, rAt}
 use Rattle.bench.specs.Sound.{countLimit, restsZero, ownTurns, inCall, roomAt11, unreadTo15, unreadAt16, agreedAt18, stationAbove, headRules, aRules, rRules, stationRules, entryKept, eachEntry, sound}

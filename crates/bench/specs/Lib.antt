@@ -1,6 +1,5 @@
 pub mod Record
 pub mod Sound
-pub mod Table
 pub mod Turn
 pub mod Reach
 pub mod Promise

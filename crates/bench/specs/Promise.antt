@@ -7,13 +7,14 @@ use Prim.Native.Nat.{ℕ, _+_, _≤_}
 use lib.Dec.{eqb}
 use lib.ListN.{length}
 use Rattle.rules.specs.Refusal.{refusalOf, GivenExactly}
-use Rattle.bench.specs.declared.Answer.{Answer}
-use Rattle.bench.specs.declared.Answer.the-variants.{Idle, Going, Ended, Refused}
+use Rattle.method.specs.declared.Answer.{Answer}
+use Rattle.method.specs.declared.Answer.the-variants.{Idle, Going, Ended, Refused}
 use Rattle.bench.specs.declared.Bench.{Bench}
 use Rattle.bench.specs.declared.Turned.{Turned}
+use Rattle.method.specs.Record.{told}
 use Rattle.bench.specs.Record.{stationAt}
 use Rattle.bench.specs.Sound.{sound}
-use Rattle.bench.specs.Turn.{Told, told, turnRefusals, turnOf, freshRefusals, freshOf}
+use Rattle.bench.specs.Turn.{turnRefusals, turnOf, freshOf}
 
 -- a turn is given a station and an offered call
 pub record Turn : Type 0 where

@@ -1,37 +1,15 @@
--- The bench's records: how they are made, read, and changed at one place. Assumes nothing.
+-- The bench: how it is made, read, and changed at one place, and how the step table has it. Assumes nothing.
 use Prim.Native.Nat.{ℕ}
 use lib.ListN.{getD, set, replicate}
 use Rattle.card.specs.declared.Halves.{Halves}
 use Rattle.card.specs.declared.Claim.{Claim}
 use Rattle.card.specs.Register.{halves, claim}
-use Rattle.bench.specs.declared.Place.{Place}
-use Rattle.bench.specs.declared.Place.the-variants.{Rest, At11, At12, At13, At14, At15, At16, At18, At19, At20}
-use Rattle.bench.specs.declared.Call.{Call}
-use Rattle.bench.specs.declared.Station.{Station}
+use Rattle.method.specs.declared.Station.{Station}
+use Rattle.method.specs.declared.Answer.{Answer}
+use Rattle.method.specs.Record.{resting}
+use Rattle.method.specs.Table.{Access}
 use Rattle.bench.specs.declared.Bench.{Bench}
-
--- place numbers are 001's line numbers; 0 is at rest
-abbrev pub num : Place → ℕ
-num Rest = 0
-num At11 = 11
-num At12 = 12
-num At13 = 13
-num At14 = 14
-num At15 = 15
-num At16 = 16
-num At18 = 18
-num At19 = 19
-num At20 = 20
-
-abbrev pub call : ℕ → ℕ → ℕ → Call
-call k a b = record { kind = k; a = a; b = b }
-
-abbrev pub station : Place → Call → ℕ → ℕ → ℕ → Claim → Halves → Station
-station q o s own c saw e = record { place = q; call = o; s = s; own = own; c = c; saw = saw; entry = e }
-
--- at rest: zero in all but c
-abbrev pub resting : ℕ → Station
-resting c = station Rest (call 0 0 0) 0 0 c (claim 0 0 0) (halves 0 0)
+use Rattle.bench.specs.declared.Turned.{Turned}
 
 -- every station at rest with count 0, all registers zero but V, which is (0, x)
 abbrev pub blank : ℕ → ℕ → Bench
@@ -68,3 +46,22 @@ putV v w = record { n = w .n; v = v; p = w .p; a = w .a; r = w .r; stations = w 
 
 abbrev pub putP : Claim → Bench → Bench
 putP p w = record { n = w .n; v = w .v; p = p; a = w .a; r = w .r; stations = w .stations }
+
+abbrev pub turned : Answer → Bench → Turned
+turned x w = record { answer = x; bench = w }
+
+-- the registers of the bench, for the step table: every station has the one V and P
+abbrev pub onBench : Access Bench Turned
+onBench =
+    record {
+      v = λ w i. w .v;
+      p = λ w i. w .p;
+      a = aAt;
+      r = rAt;
+      putV = λ i v w. putV v w;
+      putP = λ i p w. putP p w;
+      putA = putA;
+      putR = putR;
+      putStation = putStation;
+      give = turned;
+    }

@@ -1,32 +1,20 @@
--- Document 01, "One turn, one register operation" and "Numbered refusals": a turn with its refusals 9 to 13, what its answer says, and a fresh bench. Assumes nothing.
+-- Document 01, "One turn, one register operation" and "Numbered refusals": a turn with its refusals 9 to 13, and a fresh bench. Assumes nothing.
 use mathlib.Core.Bool.{Bool, cond, not, _&&_, _||_}
 use mathlib.Core.List.{List, [], _∷_}
 use Prim.Native.Nat.{ℕ}
 use lib.Dec.{ltb, eqb}
+use Rattle.card.specs.declared.Halves.{Halves}
+use Rattle.method.specs.Record.{num}
+use Rattle.method.specs.Table.{Access, row}
 use Rattle.rules.specs.Refusal.{Refusal, refusal, refusalOf}
-use Rattle.bench.specs.declared.Place.{Place}
-use Rattle.bench.specs.declared.Station.{Station}
+use Rattle.method.specs.declared.Place.{Place}
+use Rattle.method.specs.declared.Station.{Station}
 use Rattle.bench.specs.declared.Bench.{Bench}
-use Rattle.bench.specs.declared.Answer.{Answer}
-use Rattle.bench.specs.declared.Answer.the-variants.{Idle, Going, Ended, Refused}
+use Rattle.method.specs.declared.Answer.the-variants.{Refused}
 use Rattle.bench.specs.declared.Turned.{Turned}
 use Rattle.bench.specs.declared.Made.{Made}
-use Rattle.bench.specs.Record.{num, blank, stationAt}
+use Rattle.bench.specs.Record.{blank, stationAt, onBench}
 use Rattle.bench.specs.Sound.{countLimit, stationLimit, versionLimit, sound}
-use Rattle.bench.specs.Table.{turned, row}
-
--- the answer of a turn is one of four: 0 idle, 1 going, 2 ended with its result and own turns, 3 refused with a number
-pub record Told : Type 0 where
-  pub case : ℕ
-  pub result : ℕ
-  pub own : ℕ
-  pub refusal : ℕ
-
-abbrev pub told : Answer → Told
-told Idle = record { case = 0; result = 0; own = 0; refusal = 0 }
-told Going = record { case = 1; result = 0; own = 0; refusal = 0 }
-told (Ended result own) = record { case = 2; result = result; own = own; refusal = 0 }
-told (Refused number) = record { case = 3; result = 0; own = 0; refusal = number }
 
 -- 10: station 0 or over n
 abbrev pub badStation : Bench → ℕ → Bool
@@ -41,26 +29,27 @@ abbrev pub wouldBegin : Place → ℕ → Bool
 wouldBegin p kind = eqb (num p) 0 && not (eqb kind 0 || eqb kind 3)
 
 -- 12 and 13: it would begin with c = 65,535, or with V.seq over 4,294,967,292
-abbrev pub beginRefusals : Bench → Place → Station → ℕ → List Refusal
-beginRefusals w p t kind =
-    refusal 12 (wouldBegin p kind && eqb (t .c) countLimit) ∷ refusal 13 (wouldBegin p kind && ltb versionLimit (w .v .first)) ∷ []
+abbrev pub beginRefusals : Halves → Place → Station → ℕ → List Refusal
+beginRefusals v p t kind =
+    refusal 12 (wouldBegin p kind && eqb (t .c) countLimit) ∷ refusal 13 (wouldBegin p kind && ltb versionLimit (v .first)) ∷ []
 
 abbrev pub turnRefusals : Bench → ℕ → ℕ → ℕ → ℕ → List Refusal
 turnRefusals w i kind a b =
     refusal 9 (not (sound w)) ∷ refusal 10 (badStation w i) ∷ refusal 11 (badOffer kind a b)
-    ∷ beginRefusals w (stationAt w i .place) (stationAt w i) kind
+    ∷ beginRefusals (w .v) (stationAt w i .place) (stationAt w i) kind
 
 -- a refused turn hands back the bench given
-abbrev pub orRefused : ℕ → Bench → Turned → Turned
-orRefused number w x = cond (eqb number 0) x (turned (Refused number) w)
+module _ {W Out : Type 0} (on : Access W Out) where
+  abbrev pub orRefused : ℕ → W → Out → Out
+  orRefused number w x = cond (eqb number 0) x (on .give (Refused number) w)
 
--- a turn of a good station with a good offer, on a sound bench
-unfoldable pub stepOf : Place → Bench → ℕ → Station → ℕ → ℕ → ℕ → Turned
-stepOf p w i t kind a b = orRefused (refusalOf (beginRefusals w p t kind)) w (row p w i t kind a b)
+  -- a turn of a good station with a good offer, on a sound bench
+  unfoldable pub stepOf : Place → W → ℕ → Station → ℕ → ℕ → ℕ → Out
+  stepOf p w i t kind a b = orRefused (refusalOf (beginRefusals (on .v w i) p t kind)) w (row on p w i t kind a b)
 
 unfoldable pub turnOf : Bench → ℕ → ℕ → ℕ → ℕ → Turned
 turnOf w i kind a b =
-    orRefused (refusalOf (turnRefusals w i kind a b)) w (row (stationAt w i .place) w i (stationAt w i) kind a b)
+    orRefused onBench (refusalOf (turnRefusals w i kind a b)) w (row onBench (stationAt w i .place) w i (stationAt w i) kind a b)
 
 -- a fresh bench of n stations; refusal 3 hands back a bench of all zeros
 abbrev pub freshRefusals : ℕ → List Refusal

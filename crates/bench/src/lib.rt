@@ -1,46 +1,21 @@
-// The bench: stations, registers, and what a turn takes and hands back. A fresh bench is made here.
+// The bench: its registers and stations, and what a turn takes and hands back. A fresh bench is made here.
 // Its modules: sound (the test of a bench), moves (one station's operation), turns (one turn of the bench).
 ghost use mathlib.Core.Path.{_≡_};
-ghost use Rattle.bench.specs.Record.{num, resting, blank};
+ghost use Rattle.method.specs.Record.{resting};
+ghost use Rattle.bench.specs.Record.{blank};
 ghost use Rattle.bench.specs.Turn.{freshOf};
 use card::Claim;
 use card::Halves;
+use method::Answer;
+use method::Call;
+use method::Place;
+use method::Station;
 
 mod moves;
 mod sound;
 mod turns;
 
-// Where a station stands: at rest, or before the operation of 001's line of that number.
-pub enum Place {
-    Rest,
-    At11,
-    At12,
-    At13,
-    At14,
-    At15,
-    At16,
-    At18,
-    At19,
-    At20,
-}
-
-// Kind 1 is set, 2 is swap.
-pub struct Call {
-    pub kind: u32,
-    pub a: u32,
-    pub b: u32,
-}
-
-// s is the version that place 5 read, saw what place 15 read of P, entry what place 16 read of A[saw.pid].
-pub struct Station {
-    pub place: Place,
-    pub call: Call,
-    pub s: u32,
-    pub own: u32,
-    pub c: u32,
-    pub saw: Claim,
-    pub entry: Halves,
-}
+pub use moves::reaches;
 
 // Entry 0 of a and r belongs to no station; station 0 stays at rest.
 pub struct Bench {
@@ -50,13 +25,6 @@ pub struct Bench {
     pub a: [Halves; 33],
     pub r: [Halves; 33],
     pub stations: [Station; 33],
-}
-
-pub enum Answer {
-    Idle,
-    Going,
-    Ended { result: u32, own: u32 },
-    Refused(u32),
 }
 
 // What a turn hands back.
@@ -86,54 +54,32 @@ pub struct Moved {
     pub reach: Reach,
 }
 
-impl Place {
-    // 001's line number; 0 at rest.
-    pub fn number(self) -> u32
-        ensures { λ r. ⌜ r ≡ num self ⌝ }
-    {
-        match self {
-            Place::Rest => 0,
-            Place::At11 => 11,
-            Place::At12 => 12,
-            Place::At13 => 13,
-            Place::At14 => 14,
-            Place::At15 => 15,
-            Place::At16 => 16,
-            Place::At18 => 18,
-            Place::At19 => 19,
-            Place::At20 => 20,
-        }
-    }
-}
-
-impl Station {
-    // A station at rest with the count c.
-    pub(crate) fn resting(c: u32) -> Station
-        ensures { λ r. ⌜ r ≡ resting c ⌝ }
-    {
-        let call = Call {
-            kind: 0,
-            a: 0,
-            b: 0,
-        };
-        let saw = Claim {
-            seq: 0,
-            pid: 0,
-            c: 0,
-        };
-        let entry = Halves {
-            first: 0,
-            second: 0,
-        };
-        Station {
-            place: Place::Rest,
-            call,
-            s: 0,
-            own: 0,
-            c,
-            saw,
-            entry,
-        }
+// A station at rest with the count c.
+fn resting(c: u32) -> Station
+    ensures { λ r. ⌜ r ≡ resting c ⌝ }
+{
+    let call = Call {
+        kind: 0,
+        a: 0,
+        b: 0,
+    };
+    let saw = Claim {
+        seq: 0,
+        pid: 0,
+        c: 0,
+    };
+    let entry = Halves {
+        first: 0,
+        second: 0,
+    };
+    Station {
+        place: Place::Rest,
+        call,
+        s: 0,
+        own: 0,
+        c,
+        saw,
+        entry,
     }
 }
 
@@ -164,7 +110,7 @@ impl Bench {
             pid: 0,
             c: 0,
         };
-        let station = Station::resting(0);
+        let station = resting(0);
         let a = [zero; 33];
         let r = [zero; 33];
         let stations = [station; 33];

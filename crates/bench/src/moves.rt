@@ -1,17 +1,20 @@
 // One station's operation, on what one turn can reach. Small values are moved here, and not the bench, so that a turn costs little.
 // The move of a place assumes that its station's numbers can grow without wrapping (`Ready`); `Reach::moved` tests that.
 ghost use mathlib.Core.Path.{_≡_};
-ghost use Rattle.bench.specs.Table.{handed, begunWith, after16};
-ghost use Rattle.bench.specs.Reach.{Ready, ready, reaching, move5, moveRest, move11, move12, move13, move14, move15, move16, move18, move19, move20, moveAt, moveOf};
-use crate::Answer;
+ghost use Rattle.method.specs.Table.{handed, begun, after16, row5, row11, row12, row13, row14, row15, row16, row18, row19, row20};
+ghost use Rattle.bench.specs.Turn.{stepOf};
+ghost use Rattle.bench.specs.Reach.{Ready, ready, reaching, onReach, moveOf};
+ghost use Rattle.method.specs.declared.Place.the-variants.{Rest};
 use crate::Bench;
-use crate::Call;
 use crate::Moved;
-use crate::Place;
 use crate::Reach;
-use crate::Station;
+use crate::resting;
 use card::Claim;
 use card::Halves;
+use method::Answer;
+use method::Call;
+use method::Place;
+use method::Station;
 
 // What a set or a swap hands back.
 fn handed(kind: u32, truth: u32, read: u32) -> u32
@@ -30,64 +33,60 @@ fn after_16(saw: Claim, entry: Halves) -> Place
     }
 }
 
-impl Station {
-    // The entry of A and R that the turn of station i reaches: the saved pid's at 16 and 18, else its own.
-    pub fn reaches(self, i: u32) -> u32
-        ensures { λ r. ⌜ r ≡ reaching (self .place) i self ⌝ }
-    {
-        let pid = self.saw.pid;
-        let place = self.place;
-        match place {
-            Place::Rest => i,
-            Place::At11 => i,
-            Place::At12 => i,
-            Place::At13 => i,
-            Place::At14 => i,
-            Place::At15 => i,
-            Place::At16 => pid,
-            Place::At18 => pid,
-            Place::At19 => i,
-            Place::At20 => i,
-        }
+// The entry of A and R that the turn of station i reaches: the saved pid's at 16 and 18, else its own.
+pub fn reaches(t: Station, i: u32) -> u32
+    ensures { λ r. ⌜ r ≡ reaching (t .place) i t ⌝ }
+{
+    let pid = t.saw.pid;
+    let place = t.place;
+    match place {
+        Place::Rest => i,
+        Place::At11 => i,
+        Place::At12 => i,
+        Place::At13 => i,
+        Place::At14 => i,
+        Place::At15 => i,
+        Place::At16 => pid,
+        Place::At18 => pid,
+        Place::At19 => i,
+        Place::At20 => i,
     }
 }
 
-impl Station {
-    // Whether the station's numbers can grow by a turn, as those of a sound bench can.
-    fn ready(self) -> bool
-        ensures { λ r. ⌜ r ≡ ready self ⌝ }
-    {
-        (self.own < 10) & ((self.c <= Bench::COUNT) & (self.s <= Bench::VERSION))
-    }
+// Whether the station's numbers can grow by a turn, as those of a sound bench can.
+fn ready(t: Station) -> bool
+    ensures { λ r. ⌜ r ≡ ready t ⌝ }
+{
+    (t.own < 10) & ((t.c <= Bench::COUNT) & (t.s <= Bench::VERSION))
+}
 
-    // A station with the count c that has read the version s at place 5 and goes on.
-    fn begun(call: Call, s: u32, c: u32) -> Station
-        ensures { λ r. ⌜ r ≡ begunWith call s c ⌝ }
-    {
-        let saw = Claim {
-            seq: 0,
-            pid: 0,
-            c: 0,
-        };
-        let entry = Halves {
-            first: 0,
-            second: 0,
-        };
-        Station {
-            place: Place::At11,
-            call,
-            s,
-            own: 1,
-            c,
-            saw,
-            entry,
-        }
+// A station with the count c that has read the version s at place 5 and goes on.
+fn begun(call: Call, s: u32, c: u32) -> Station
+    ensures { λ r. ⌜ r ≡ begun call s c ⌝ }
+{
+    let saw = Claim {
+        seq: 0,
+        pid: 0,
+        c: 0,
+    };
+    let entry = Halves {
+        first: 0,
+        second: 0,
+    };
+    Station {
+        place: Place::At11,
+        call,
+        s,
+        own: 1,
+        c,
+        saw,
+        entry,
     }
 }
 
 impl Reach {
     fn move_5(mut self, kind: u32, a: u32, b: u32) -> Moved
-        ensures { λ r. ⌜ r ≡ move5 self kind a b ⌝ }
+        ensures { λ r. ⌜ r ≡ row5 onReach self (self .id) (self .station) kind a b ⌝ }
     {
         let v = self.v;
         let count = self.station.c;
@@ -106,7 +105,7 @@ impl Reach {
             };
         }
         let call = Call { kind, a, b };
-        let station = Station::begun(call, v.first, count);
+        let station = begun(call, v.first, count);
         self.station = station;
         Moved {
             answer: Answer::Going,
@@ -116,7 +115,7 @@ impl Reach {
 
     // A station at rest begins the offered call, or is refused 12 or 13.
     fn move_rest(self, kind: u32, a: u32, b: u32) -> Moved
-        ensures { λ r. ⌜ r ≡ moveRest self kind a b ⌝ }
+        ensures { λ r. ⌜ r ≡ stepOf onReach Rest self (self .id) (self .station) kind a b ⌝ }
     {
         let result = self.v.second;
         let version = self.v.first;
@@ -150,7 +149,7 @@ impl Reach {
 
     fn move_11(mut self) -> Moved
         requires { ⌜ Ready (self .station) ⌝ }
-        ensures { λ r. ⌜ r ≡ move11 self ⌝ }
+        ensures { λ r. ⌜ r ≡ row11 onReach self (self .id) (self .station) ⌝ }
     {
         let t = self.station;
         let call = t.call;
@@ -180,7 +179,7 @@ impl Reach {
 
     fn move_12(mut self) -> Moved
         requires { ⌜ Ready (self .station) ⌝ }
-        ensures { λ r. ⌜ r ≡ move12 self ⌝ }
+        ensures { λ r. ⌜ r ≡ row12 onReach self (self .id) (self .station) ⌝ }
     {
         let t = self.station;
         let call = t.call;
@@ -209,7 +208,7 @@ impl Reach {
 
     fn move_13(mut self) -> Moved
         requires { ⌜ Ready (self .station) ⌝ }
-        ensures { λ r. ⌜ r ≡ move13 self ⌝ }
+        ensures { λ r. ⌜ r ≡ row13 onReach self (self .id) (self .station) ⌝ }
     {
         let t = self.station;
         let call = t.call;
@@ -236,7 +235,7 @@ impl Reach {
 
     fn move_14(mut self) -> Moved
         requires { ⌜ Ready (self .station) ⌝ }
-        ensures { λ r. ⌜ r ≡ move14 self ⌝ }
+        ensures { λ r. ⌜ r ≡ row14 onReach self (self .id) (self .station) ⌝ }
     {
         let t = self.station;
         let call = t.call;
@@ -263,7 +262,7 @@ impl Reach {
 
     fn move_15(mut self) -> Moved
         requires { ⌜ Ready (self .station) ⌝ }
-        ensures { λ r. ⌜ r ≡ move15 self ⌝ }
+        ensures { λ r. ⌜ r ≡ row15 onReach self (self .id) (self .station) ⌝ }
     {
         let t = self.station;
         let call = t.call;
@@ -287,7 +286,7 @@ impl Reach {
 
     fn move_16(mut self) -> Moved
         requires { ⌜ Ready (self .station) ⌝ }
-        ensures { λ r. ⌜ r ≡ move16 self ⌝ }
+        ensures { λ r. ⌜ r ≡ row16 onReach self (self .id) (self .station) ⌝ }
     {
         let t = self.station;
         let call = t.call;
@@ -312,7 +311,7 @@ impl Reach {
 
     fn move_18(mut self) -> Moved
         requires { ⌜ Ready (self .station) ⌝ }
-        ensures { λ r. ⌜ r ≡ move18 self ⌝ }
+        ensures { λ r. ⌜ r ≡ row18 onReach self (self .id) (self .station) ⌝ }
     {
         let t = self.station;
         let call = t.call;
@@ -339,7 +338,7 @@ impl Reach {
 
     fn move_19(mut self) -> Moved
         requires { ⌜ Ready (self .station) ⌝ }
-        ensures { λ r. ⌜ r ≡ move19 self ⌝ }
+        ensures { λ r. ⌜ r ≡ row19 onReach self (self .id) (self .station) ⌝ }
     {
         let t = self.station;
         let call = t.call;
@@ -366,13 +365,13 @@ impl Reach {
 
     fn move_20(mut self) -> Moved
         requires { ⌜ Ready (self .station) ⌝ }
-        ensures { λ r. ⌜ r ≡ move20 self ⌝ }
+        ensures { λ r. ⌜ r ≡ row20 onReach self (self .id) (self .station) ⌝ }
     {
         let t = self.station;
         let r = self.r;
         let own = t.own + 1;
         let result = handed(t.call.kind, r.second, t.call.a);
-        let station = Station::resting(t.c);
+        let station = resting(t.c);
         self.station = station;
         Moved {
             answer: Answer::Ended { result, own },
@@ -383,7 +382,7 @@ impl Reach {
     // The operation of the place where the station stands.
     fn move_at(self, kind: u32, a: u32, b: u32) -> Moved
         requires { ⌜ Ready (self .station) ⌝ }
-        ensures { λ r. ⌜ r ≡ moveAt (self .station .place) self kind a b ⌝ }
+        ensures { λ r. ⌜ r ≡ stepOf onReach (self .station .place) self (self .id) (self .station) kind a b ⌝ }
     {
         let t = self.station;
         let place = t.place;
@@ -406,7 +405,7 @@ impl Reach {
         ensures { λ r. ⌜ r ≡ moveOf self kind a b ⌝ }
     {
         let t = self.station;
-        if !t.ready() {
+        if !ready(t) {
             return Moved {
                 answer: Answer::Refused(9),
                 reach: self,

@@ -3,9 +3,9 @@ ghost use mathlib.Core.Path.{_≡_};
 ghost use Rattle.rules.specs.Test.{passes, pass, allKept};
 ghost use Rattle.bench.specs.Sound.{unread, zeroButCount, ownTurns, called, agreed, zeroHalves, aRules, rRules, stationRules, entryKept, eachEntry, headRules, countLimit, sound};
 use crate::Bench;
-use crate::Place;
-use crate::Station;
 use card::Halves;
+use method::Place;
+use method::Station;
 
 fn zero(e: Halves) -> bool
     ensures { λ r. ⌜ r ≡ pass (zeroHalves e) ⌝ }
@@ -13,84 +13,79 @@ fn zero(e: Halves) -> bool
     (e.first == 0) & (e.second == 0)
 }
 
-impl Station {
-    fn unread(self) -> bool
-        ensures { λ r. ⌜ r ≡ pass (unread self) ⌝ }
-    {
-        (self.saw.seq == 0)
-            & ((self.saw.pid == 0)
-                & ((self.saw.c == 0) & ((self.entry.first == 0) & (self.entry.second == 0))))
-    }
+fn unread(t: Station) -> bool
+    ensures { λ r. ⌜ r ≡ pass (unread t) ⌝ }
+{
+    (t.saw.seq == 0)
+        & ((t.saw.pid == 0) & ((t.saw.c == 0) & ((t.entry.first == 0) & (t.entry.second == 0))))
+}
 
-    fn zero_but_count(self) -> bool
-        ensures { λ r. ⌜ r ≡ pass (zeroButCount self) ⌝ }
-    {
-        let own = self.own;
-        let call = self.call;
-        let s = self.s;
-        (own == 0)
-            & ((call.kind == 0) & ((call.a == 0) & ((call.b == 0) & ((s == 0) & self.unread()))))
-    }
+fn zero_but_count(t: Station) -> bool
+    ensures { λ r. ⌜ r ≡ pass (zeroButCount t) ⌝ }
+{
+    let own = t.own;
+    let call = t.call;
+    let s = t.s;
+    (own == 0) & ((call.kind == 0) & ((call.a == 0) & ((call.b == 0) & ((s == 0) & unread(t)))))
+}
 
-    fn own_turns(self) -> bool
-        ensures { λ r. ⌜ r ≡ passes (ownTurns (self .place) (self .own)) ⌝ }
-    {
-        let own = self.own;
-        let place = self.place;
-        match place {
-            Place::Rest => own == 0,
-            Place::At11 => own == 1,
-            Place::At12 => own == 2,
-            Place::At13 => own == 3,
-            Place::At14 => own == 4,
-            Place::At15 => own == 5,
-            Place::At16 => own == 6,
-            Place::At18 => own == 7,
-            Place::At19 => own == 8,
-            Place::At20 => (own == 7) | (own == 9),
-        }
+fn own_turns(t: Station) -> bool
+    ensures { λ r. ⌜ r ≡ passes (ownTurns (t .place) (t .own)) ⌝ }
+{
+    let own = t.own;
+    let place = t.place;
+    match place {
+        Place::Rest => own == 0,
+        Place::At11 => own == 1,
+        Place::At12 => own == 2,
+        Place::At13 => own == 3,
+        Place::At14 => own == 4,
+        Place::At15 => own == 5,
+        Place::At16 => own == 6,
+        Place::At18 => own == 7,
+        Place::At19 => own == 8,
+        Place::At20 => (own == 7) | (own == 9),
     }
+}
 
-    fn called(self, limit: u32, n: u32) -> bool
-        ensures { λ r. ⌜ r ≡ pass (called limit n self) ⌝ }
-    {
-        ((self.call.kind == 1) | (self.call.kind == 2))
-            & ((self.call.a != self.call.b)
-                & ((self.s % 2 == 0)
-                    & ((self.s <= Bench::VERSION)
-                        & ((self.saw.pid <= n)
-                            & ((self.saw.c <= limit) & (self.entry.first <= limit))))))
-    }
+fn called(t: Station, limit: u32, n: u32) -> bool
+    ensures { λ r. ⌜ r ≡ pass (called limit n t) ⌝ }
+{
+    ((t.call.kind == 1) | (t.call.kind == 2))
+        & ((t.call.a != t.call.b)
+            & ((t.s % 2 == 0)
+                & ((t.s <= Bench::VERSION)
+                    & ((t.saw.pid <= n) & ((t.saw.c <= limit) & (t.entry.first <= limit))))))
+}
 
-    fn agreed(self) -> bool
-        ensures { λ r. ⌜ r ≡ pass (agreed self) ⌝ }
-    {
-        (self.saw.seq % 2 == 0) & (self.saw.c == self.entry.first)
-    }
+fn agreed(t: Station) -> bool
+    ensures { λ r. ⌜ r ≡ pass (agreed t) ⌝ }
+{
+    (t.saw.seq % 2 == 0) & (t.saw.c == t.entry.first)
+}
 
-    fn station_ok(self, limit: u32, n: u32, i: u32) -> bool
-        ensures { λ r. ⌜ r ≡ allKept (stationRules limit n i (self .place) self) ⌝ }
-    {
-        let c = self.c;
-        let entry = self.entry;
-        let place = self.place;
-        let k = place.number();
-        let zero_but_count = self.zero_but_count();
-        let own_turns = self.own_turns();
-        let called = self.called(limit, n);
-        let unread = self.unread();
-        let unread_entry = zero(entry);
-        let agreed = self.agreed();
-        (c <= limit)
-            & ((!(n < i) | ((c == 0) & ((k == 0) & zero_but_count)))
-                & ((!(k == 0) | zero_but_count)
-                    & (own_turns
-                        & ((!!(k == 0) | called)
-                            & ((!(k == 11) | (c < limit))
-                                & ((!((11 <= k) & (k <= 15)) | unread)
-                                    & ((!(k == 16) | unread_entry)
-                                        & (!((k == 18) | (k == 19)) | agreed))))))))
-    }
+fn station_ok(t: Station, limit: u32, n: u32, i: u32) -> bool
+    ensures { λ r. ⌜ r ≡ allKept (stationRules limit n i (t .place) t) ⌝ }
+{
+    let c = t.c;
+    let entry = t.entry;
+    let place = t.place;
+    let k = place.number();
+    let zero_but_count = zero_but_count(t);
+    let own_turns = own_turns(t);
+    let called = called(t, limit, n);
+    let unread = unread(t);
+    let unread_entry = zero(entry);
+    let agreed = agreed(t);
+    (c <= limit)
+        & ((!(n < i) | ((c == 0) & ((k == 0) & zero_but_count)))
+            & ((!(k == 0) | zero_but_count)
+                & (own_turns
+                    & ((!!(k == 0) | called)
+                        & ((!(k == 11) | (c < limit))
+                            & ((!((11 <= k) & (k <= 15)) | unread)
+                                & ((!(k == 16) | unread_entry)
+                                    & (!((k == 18) | (k == 19)) | agreed))))))))
 }
 
 fn a_ok(limit: u32, n: u32, i: u32, a: Halves) -> bool
@@ -113,7 +108,7 @@ fn entry_ok(limit: u32, n: u32, i: u32, a: Halves, r: Halves, t: Station) -> boo
 {
     let a_ok = a_ok(limit, n, i, a);
     let r_ok = r_ok(limit, n, i, r);
-    let t_ok = t.station_ok(limit, n, i);
+    let t_ok = station_ok(t, limit, n, i);
     a_ok & (r_ok & t_ok)
 }
 

@@ -2,13 +2,14 @@
 ghost use mathlib.Core.Path.{_≡_};
 ghost use mathlib.Core.Bool.{true};
 ghost use Prim.Native.Nat.{_<_};
-ghost use Rattle.bench.specs.Record.{stationAt};
+ghost use Rattle.bench.specs.Record.{stationAt, onBench};
 ghost use Rattle.bench.specs.Sound.{sound};
 ghost use Rattle.bench.specs.Turn.{badOffer, stepOf, turnOf};
-use crate::Answer;
 use crate::Bench;
 use crate::Reach;
 use crate::Turned;
+use crate::moves::reaches;
+use method::Answer;
 
 fn bad_offer(kind: u32, a: u32, b: u32) -> bool
     ensures { λ r. ⌜ r ≡ badOffer kind a b ⌝ }
@@ -20,11 +21,11 @@ impl Bench {
     // A turn of a good station with a good offer, on a sound bench.
     pub(crate) fn stepped(mut self, i: u32, kind: u32, a: u32, b: u32) -> Turned
         requires { ⌜ (i < 33) × (sound self ≡ true) ⌝ }
-        ensures { λ r. ⌜ r ≡ stepOf (stationAt self i .place) self i (stationAt self i) kind a b ⌝ }
+        ensures { λ r. ⌜ r ≡ stepOf onBench (stationAt self i .place) self i (stationAt self i) kind a b ⌝ }
     {
         let at = i as usize;
         let t = self.stations[at];
-        let to = t.reaches(i) as usize;
+        let to = reaches(t, i) as usize;
         let v = self.v;
         let p = self.p;
         let ea = self.a[to];

@@ -9,14 +9,14 @@ use Rattle.card.specs.declared.Halves.{Halves}
 use Rattle.card.specs.declared.Claim.{Claim}
 use Rattle.card.specs.Register as Register
 use Rattle.card.specs.Word as Word
-use Rattle.bench.specs.declared.Place.{Place}
-use Rattle.bench.specs.declared.Station.{Station}
+use Rattle.method.specs.declared.Place.{Place}
+use Rattle.method.specs.declared.Station.{Station}
 use Rattle.bench.specs.declared.Reach.{Reach}
 use Rattle.bench.specs.declared.Moved.{Moved}
 use Rattle.bench.specs.declared.Bench.{Bench}
 use Rattle.bench.specs.declared.Turned.{Turned}
 use Rattle.bench.specs.declared.Made.{Made}
-use Rattle.bench.specs.Record as Record
+use Rattle.method.specs.Record as Record
 use Rattle.bench.specs.Sound as Sound
 use Rattle.bench.specs.Reach as Reach
 use Rattle.bench.specs.Turn as Turn

@@ -1,13 +1,13 @@
 // Both sides of the bench's limits, one line a case: what is just let through, and what is just refused.
 // It builds benches by hand, sound ones and others, and prints what a turn answers and what it changed.
-use bench::Answer;
 use bench::Bench;
-use bench::Call;
-use bench::Place;
-use bench::Station;
 use card::Claim;
 use card::Halves;
 use libc::STDOUT_FILENO;
+use method::Answer;
+use method::Call;
+use method::Place;
+use method::Station;
 
 fn number(x: u32) {
     io::write_all(STDOUT_FILENO, b" ");

@@ -1,7 +1,7 @@
 use borrow.Author.Needs.{needs}
 use Rattle.bench.specs.Reach.{reaching}
-use Rattle.bench.proofs.Station.reaches.Statement.{statement}
-use Rattle.bench.proofs.Station.reaches.Tie as tie
+use Rattle.bench.proofs.moves.reaches.Statement.{statement}
+use Rattle.bench.proofs.moves.reaches.Tie as tie
 
 pub reaches-spec : {M : Type 1} → statement M
 unfolding reaching
