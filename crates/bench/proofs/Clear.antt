@@ -92,3 +92,15 @@ clear w i kind a b e =
       room = none 12;
       early = none 13;
     }
+
+-- a turn is refused with a number and leaves the bench as it was, or it is the row of a turn that no refusal holds of
+pub by-turn : (P : Turned → Type 0) (w : Bench) (u : Turn) → ((number : ℕ) → P (turned (Refused number) w))
+    → (Clear w (u .station) (u .kind) (u .a) (u .b)
+    → P (row onBench (stationAt w (u .station) .place) w (u .station) (stationAt w (u .station)) (u .kind) (u .a) (u .b)))
+    → P (turnBy w u)
+unfolding turnOf
+by-turn P w u refused moves =
+    let number = refusalOf (turnRefusals w (u .station) (u .kind) (u .a) (u .b)) in
+    either-way (eqb number 0)
+    (λ e. rw e (moves (clear w (u .station) (u .kind) (u .a) (u .b) (eqb-true number 0 e))))
+    (λ e. rw e (refused number))

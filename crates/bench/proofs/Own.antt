@@ -9,7 +9,6 @@ use borrow.Author.Tests.{eqb-true, eqb-false, eq-eqb, ne-eqb}
 use lib.Dec.{eqb}
 use lib.ListN.{getD, set, length, length-set}
 use lib.Seq.{getD-set-same, getD-set-other}
-use Rattle.rules.specs.Refusal.{refusalOf}
 use Rattle.rules.proofs.Facts.{either-way}
 use Rattle.method.specs.declared.Place.{Place}
 use Rattle.method.specs.declared.Place.the-variants.{Rest, At11, At12, At13, At14, At15, At16, At18, At19, At20}
@@ -22,10 +21,9 @@ use Rattle.method.specs.Record.{told, call, resting}
 use Rattle.method.specs.Table.{handed, sees, goes, begun, grown, row2, row}
 use Rattle.bench.specs.Record.{stationAt, putStation, turned, onBench}
 use Rattle.bench.specs.Sound.{countLimit, sound}
-use Rattle.bench.specs.Turn.{turnRefusals, turnOf}
 use Rattle.bench.specs.Promise.{Turn, turnBy, after, counted, operations, OwnTurns, OwnTurnsCount}
 use Rattle.bench.proofs.Sounds.{Stands, facts}
-use Rattle.bench.proofs.Clear.{clear}
+use Rattle.bench.proofs.Clear.{by-turn}
 use Rattle.bench.proofs.Promised.{turn-sound}
 
 -- what a turn of station i does to the own turns of every station, and what it answers of its own, d of them being done
@@ -116,17 +114,13 @@ module _ (limit : ℕ) (w : Bench) (u : Turn) (inside : u .station < length (w .
 
 -- one turn of any sound bench
 turn-counts : (w : Bench) (u : Turn) → length (w .stations) ≡ 33 → sound w ≡ true → Counts w u (turnBy w u)
-unfolding turnOf
 turn-counts w u l s =
     let i = u .station in
-    let number = refusalOf (turnRefusals w i (u .kind) (u .a) (u .b)) in
-    either-way (eqb number 0)
-    (λ e.
-    let k = clear w i (u .kind) (u .a) (u .b) (eqb-true number 0 e) in
     let f = facts w s in
+    by-turn (Counts w u) w u (refuses w u)
+    (λ k.
     let h : i < 33 = omega (arith, k .high, f .head .0 .1 .0) in
-    rw e (counts countLimit w u (omega arith) (stationAt w i .place) (f .station i h .stands)))
-    (λ e. rw e (refuses w u number))
+    counts countLimit w u (omega arith) (stationAt w i .place) (f .station i h .stands))
 
 -- over any turns
 own-counts : (us : List Turn) (i : ℕ) (w : Bench) → length (w .stations) ≡ 33 → sound w ≡ true

@@ -4,38 +4,31 @@ use mathlib.Core.Bool.{Bool, true, false, cond, not, _&&_, _||_}
 use Prim.Native.Nat.{ℕ, _<_, _≤_}
 use native.Mathlib.Omega.{arith}
 use borrow.Author.Needs.{needs}
-use borrow.Author.Tests.{eqb-true, eqb-false, ltb-false}
+use borrow.Author.Tests.{eqb-false, ltb-false}
 use lib.Dec.{ltb, eqb}
 use lib.ListN.{getD, replicate, getD-replicate}
 use Rattle.card.specs.Register.{halves}
-use Rattle.rules.specs.Refusal.{refusalOf}
 use Rattle.rules.specs.Test.{When}
 use Rattle.rules.proofs.Facts.{either-way, or-none}
 use Rattle.bench.specs.declared.Bench.{Bench}
 use Rattle.method.specs.Record.{resting}
 use Rattle.bench.specs.Record.{blank, stationAt}
 use Rattle.bench.specs.Sound.{countLimit, stationLimit, sound}
-use Rattle.bench.specs.Turn.{turnRefusals, turnOf, freshOf}
+use Rattle.bench.specs.Turn.{freshOf}
 use Rattle.bench.specs.Promise.{Turn, turnBy, KeptSound}
 use Rattle.bench.proofs.Sounds.{StationKept, Sound, facts, holds}
 use Rattle.bench.proofs.Kept.{row-sound}
-use Rattle.bench.proofs.Clear.{clear}
+use Rattle.bench.proofs.Clear.{by-turn}
 
--- a turn that is not refused is the row's, and any other hands back the bench given
 pub turn-sound : (w : Bench) (u : Turn) → sound w ≡ true → sound (turnBy w u .bench) ≡ true
-unfolding turnOf
 turn-sound w u s =
     let i = u .station in
-    let number = refusalOf (turnRefusals w i (u .kind) (u .a) (u .b)) in
-    either-way (eqb number 0)
-    (λ e.
-    let k = clear w i (u .kind) (u .a) (u .b) (eqb-true number 0 e) in
     let f = facts w s in
+    by-turn (λ x. sound (x .bench) ≡ true) w u (λ number. s)
+    (λ k.
     let h : i < 33 = omega (arith, k .high, f .head .0 .1 .0) in
-    rw e
-    (holds _
-    (row-sound countLimit w i f (k .low) (k .high) (stationAt w i .place) (u .kind) (u .a) (u .b) (k .known) (f .station i h .stands) (k .room) (k .early))))
-    (λ e. rw e s)
+    holds _
+    (row-sound countLimit w i f (k .low) (k .high) (stationAt w i .place) (u .kind) (u .a) (u .b) (k .known) (f .station i h .stands) (k .room) (k .early)))
 
 -- a rule that holds anyway holds where its condition is met
 anyway : {X : Type 0} (b : Bool) → X → When b X

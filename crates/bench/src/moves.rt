@@ -1,7 +1,7 @@
 // One station's operation, on what one turn can reach. Small values are moved here, and not the bench, so that a turn costs little.
 // The move of a place assumes that its station's numbers can grow without wrapping (`Ready`); `Reach::moved` tests that.
 ghost use mathlib.Core.Path.{_≡_};
-ghost use Rattle.method.specs.Table.{handed, begun, after16, row5, row11, row12, row13, row14, row15, row16, row18, row19, row20};
+ghost use Rattle.method.specs.Table.{handed, begun, sees, after16, row5, row11, row12, row13, row14, row15, row16, row18, row19, row20};
 ghost use Rattle.bench.specs.Turn.{stepOf};
 ghost use Rattle.bench.specs.Reach.{Ready, ready, reaching, onReach, moveOf};
 ghost use Rattle.method.specs.declared.Place.the-variants.{Rest};
@@ -79,6 +79,23 @@ fn begun(call: Call, s: u32, c: u32) -> Station
         s,
         own: 1,
         c,
+        saw,
+        entry,
+    }
+}
+
+// The station's record one own turn later, at the place.
+fn sees(t: Station, place: Place, saw: Claim, entry: Halves) -> Station
+    requires { ⌜ Ready t ⌝ }
+    ensures { λ r. ⌜ r ≡ sees t place saw entry ⌝ }
+{
+    let call = t.call;
+    Station {
+        place,
+        call,
+        s: t.s,
+        own: t.own + 1,
+        c: t.c,
         saw,
         entry,
     }
@@ -182,22 +199,13 @@ impl Reach {
         ensures { λ r. ⌜ r ≡ row12 onReach self (self .id) (self .station) ⌝ }
     {
         let t = self.station;
-        let call = t.call;
         let saw = t.saw;
         let entry = t.entry;
         let r = Halves {
             first: t.c,
             second: 0,
         };
-        let station = Station {
-            place: Place::At13,
-            call,
-            s: t.s,
-            own: t.own + 1,
-            c: t.c,
-            saw,
-            entry,
-        };
+        let station = sees(t, Place::At13, saw, entry);
         self.r = r;
         self.station = station;
         Moved {
@@ -211,20 +219,11 @@ impl Reach {
         ensures { λ r. ⌜ r ≡ row13 onReach self (self .id) (self .station) ⌝ }
     {
         let t = self.station;
-        let call = t.call;
         let saw = t.saw;
         let entry = t.entry;
         let p = self.p;
         let q = p.max_write(t.s + 1, self.id, t.c);
-        let station = Station {
-            place: Place::At14,
-            call,
-            s: t.s,
-            own: t.own + 1,
-            c: t.c,
-            saw,
-            entry,
-        };
+        let station = sees(t, Place::At14, saw, entry);
         self.p = q;
         self.station = station;
         Moved {
@@ -238,20 +237,11 @@ impl Reach {
         ensures { λ r. ⌜ r ≡ row14 onReach self (self .id) (self .station) ⌝ }
     {
         let t = self.station;
-        let call = t.call;
         let saw = t.saw;
         let entry = t.entry;
         let p = self.p;
         let q = p.half_max(t.s + 2);
-        let station = Station {
-            place: Place::At15,
-            call,
-            s: t.s,
-            own: t.own + 1,
-            c: t.c,
-            saw,
-            entry,
-        };
+        let station = sees(t, Place::At15, saw, entry);
         self.p = q;
         self.station = station;
         Moved {
@@ -265,18 +255,9 @@ impl Reach {
         ensures { λ r. ⌜ r ≡ row15 onReach self (self .id) (self .station) ⌝ }
     {
         let t = self.station;
-        let call = t.call;
         let saw = self.p;
         let entry = t.entry;
-        let station = Station {
-            place: Place::At16,
-            call,
-            s: t.s,
-            own: t.own + 1,
-            c: t.c,
-            saw,
-            entry,
-        };
+        let station = sees(t, Place::At16, saw, entry);
         self.station = station;
         Moved {
             answer: Answer::Going,
@@ -289,19 +270,10 @@ impl Reach {
         ensures { λ r. ⌜ r ≡ row16 onReach self (self .id) (self .station) ⌝ }
     {
         let t = self.station;
-        let call = t.call;
         let saw = t.saw;
         let entry = self.a;
         let place = after_16(saw, entry);
-        let station = Station {
-            place,
-            call,
-            s: t.s,
-            own: t.own + 1,
-            c: t.c,
-            saw,
-            entry,
-        };
+        let station = sees(t, place, saw, entry);
         self.station = station;
         Moved {
             answer: Answer::Going,
@@ -314,20 +286,11 @@ impl Reach {
         ensures { λ r. ⌜ r ≡ row18 onReach self (self .id) (self .station) ⌝ }
     {
         let t = self.station;
-        let call = t.call;
         let saw = t.saw;
         let entry = t.entry;
         let r = self.r;
         let q = r.max_write(entry.first, 1);
-        let station = Station {
-            place: Place::At19,
-            call,
-            s: t.s,
-            own: t.own + 1,
-            c: t.c,
-            saw,
-            entry,
-        };
+        let station = sees(t, Place::At19, saw, entry);
         self.r = q;
         self.station = station;
         Moved {
@@ -341,20 +304,11 @@ impl Reach {
         ensures { λ r. ⌜ r ≡ row19 onReach self (self .id) (self .station) ⌝ }
     {
         let t = self.station;
-        let call = t.call;
         let saw = t.saw;
         let entry = t.entry;
         let v = self.v;
         let q = v.max_write(saw.seq, entry.second);
-        let station = Station {
-            place: Place::At20,
-            call,
-            s: t.s,
-            own: t.own + 1,
-            c: t.c,
-            saw,
-            entry,
-        };
+        let station = sees(t, Place::At20, saw, entry);
         self.v = q;
         self.station = station;
         Moved {
