@@ -1,32 +1,26 @@
 -- Turns of any bench: their refusals, and that they keep it sound. Assumes nothing.
-use mathlib.Core.Path.{_≡_, refl, _∙_, sym, ap}
+use mathlib.Core.Path.{_≡_, refl, _∙_, sym}
 use mathlib.Core.Bool.{Bool, true, false, cond, not, _&&_, _||_}
-use mathlib.Core.List.{List, [], _∷_}
-use Prim.Native.Nat.{ℕ, suc, _<_, _≤_, _+_, _%_}
+use mathlib.Core.List.{[]}
+use Prim.Native.Nat.{ℕ, _≤_}
 use native.Mathlib.Omega.{arith}
 use borrow.Author.Tests.{ltb-false, eqb-true, eqb-false, ne-eqb, not-false}
 use lib.Dec.{ltb, eqb}
-use lib.ListN.{getD, replicate}
-use Rattle.rules.specs.Refusal.{Refusal, refusalOf, holdsAt, Exact}
-use Rattle.rules.specs.Test.{When}
+use Rattle.rules.specs.Refusal.{refusalOf, holdsAt, Exact}
 use Rattle.rules.proofs.Exactly.{exactly}
 use Rattle.rules.proofs.Facts.{either-way, or-none}
-use Rattle.card.specs.Register.{halves}
 use Rattle.method.specs.declared.Place.{Place}
 use Rattle.method.specs.declared.Place.the-variants.{Rest, At11, At12, At13, At14, At15, At16, At18, At19, At20}
 use Rattle.method.specs.declared.Station.{Station}
 use Rattle.bench.specs.declared.Bench.{Bench}
 use Rattle.bench.specs.declared.Turned.{Turned}
-use Rattle.method.specs.declared.Answer.{Answer}
 use Rattle.method.specs.declared.Answer.the-variants.{Idle, Going, Ended, Refused}
 use Rattle.method.specs.Record.{told, call}
 use Rattle.method.specs.Table.{handed, begun, row}
 use Rattle.bench.specs.Record.{stationAt, putStation, turned, onBench}
-use Rattle.bench.specs.Sound.{countLimit, versionLimit, stationLimit, sound}
+use Rattle.bench.specs.Sound.{countLimit, versionLimit, sound}
 use Rattle.bench.specs.Turn.{wouldBegin, orRefused, turnRefusals, turnOf}
 use Rattle.bench.specs.Promise.{Turn, turnBy, RefusesExactly}
-use Rattle.bench.proofs.Sounds.{Sound, facts, holds}
-use Rattle.bench.proofs.Kept.{row-sound}
 
 -- a row refuses nothing
 none-refused : (none reads other same : Bool) (w x : Bench) (v y z : ℕ)

@@ -1,11 +1,11 @@
 -- Own turns count the table's operations that a station did in its call, and there are 1, 8 or 10 of them. Assumes nothing.
 use mathlib.Core.Path.{_≡_, refl, _∙_, sym, ap}
 use mathlib.Core.Logic.{_⊎_, inl, inr, ⊎-elim}
-use mathlib.Core.Bool.{Bool, true, false, cond, not, _&&_, _||_}
+use mathlib.Core.Bool.{Bool, true, false, cond, not}
 use mathlib.Core.List.{List, [], _∷_}
 use Prim.Native.Nat.{ℕ, _<_, _≤_, _+_}
 use native.Mathlib.Omega.{arith}
-use borrow.Author.Tests.{eqb-true, eqb-false, eq-eqb, ne-eqb}
+use borrow.Author.Tests.{eqb-true, eqb-false}
 use lib.Dec.{eqb}
 use lib.ListN.{getD, set, length, length-set}
 use lib.Seq.{getD-set-same, getD-set-other}
@@ -15,13 +15,12 @@ use Rattle.method.specs.declared.Place.the-variants.{Rest, At11, At12, At13, At
 use Rattle.method.specs.declared.Station.{Station}
 use Rattle.bench.specs.declared.Bench.{Bench}
 use Rattle.bench.specs.declared.Turned.{Turned}
-use Rattle.method.specs.declared.Answer.{Answer}
 use Rattle.method.specs.declared.Answer.the-variants.{Idle, Going, Ended, Refused}
 use Rattle.method.specs.Record.{told, call, resting}
 use Rattle.method.specs.Table.{handed, sees, goes, begun, grown, row2, row}
 use Rattle.bench.specs.Record.{stationAt, putStation, turned, onBench}
 use Rattle.bench.specs.Sound.{countLimit, sound}
-use Rattle.bench.specs.Promise.{Turn, turnBy, after, counted, operations, OwnTurns, OwnTurnsCount}
+use Rattle.bench.specs.Promise.{Turn, turnBy, after, counted, operations, OwnTurnsCount}
 use Rattle.bench.proofs.Sounds.{Stands, facts}
 use Rattle.bench.proofs.Clear.{by-turn}
 use Rattle.bench.proofs.Promised.{turn-sound}

@@ -1,7 +1,7 @@
 // The test of a sound bench, sentence by sentence. It assumes nothing of the bench.
 ghost use mathlib.Core.Path.{_≡_};
 ghost use Rattle.rules.specs.Test.{passes, pass, allKept};
-ghost use Rattle.bench.specs.Sound.{unread, zeroButCount, ownTurns, called, agreed, zeroHalves, aRules, rRules, stationRules, entryKept, eachEntry, headRules, countLimit, sound};
+ghost use Rattle.bench.specs.Sound.{unread, zeroButCount, ownTurns, called, agreed, zeroHalves, aRules, rRules, stationRules, entryKept, eachEntry, headRules, sound};
 use crate::Bench;
 use card::Halves;
 use method::Place;

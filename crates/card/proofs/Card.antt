@@ -1,13 +1,12 @@
 -- The promises of the card, over any split of P's second half. Assumes nothing.
-use mathlib.Core.Path.{_≡_, refl, _∙_, ap}
+use mathlib.Core.Path.{_≡_, refl, _∙_}
 use mathlib.Core.Bool.{Bool, true, false, cond}
-use Prim.Native.Nat.{ℕ, _+_, _*_, _^_, _/_, _%_, _<_}
+use Prim.Native.Nat.{ℕ, _+_, _^_, _/_, _%_, _<_}
 use native.Mathlib.Nat.{mod-lt, mod-eq-of-lt, div-eq-of-lt, mul-add-div-right, mul-add-mod-self-right, add-zero, suc-mul, mul-le-mul-right}
 use native.Mathlib.Omega.{arith}
 use lib.Pow.{pow-pos, pow-add}
-use Rattle.card.specs.declared.Halves.{Halves}
 use Rattle.card.specs.declared.Claim.{Claim}
-use Rattle.card.specs.Register.{halves, claim, atLeast, maxWrite, maxClaim}
+use Rattle.card.specs.Register.{halves, claim, atLeast}
 use Rattle.card.specs.Word.{Split, packed, packedClaim}
 use Rattle.card.specs.Promise.{Packs, TwoHalves, Card}
 

@@ -1,13 +1,12 @@
 -- A refusal is given exactly when it holds and none before it does. Assumes nothing.
-use mathlib.Core.Path.{_≡_, refl, _∙_, sym, ap}
-use mathlib.Core.Logic.{_↔_}
-use mathlib.Core.Bool.{Bool, true, false, cond, not, _&&_, _||_, false≢true}
+use mathlib.Core.Path.{_≡_, refl, _∙_, sym}
+use mathlib.Core.Bool.{true, false, not, _&&_, false≢true}
 use mathlib.Core.List.{List, [], _∷_}
 use Prim.Native.Nat.{ℕ, zero, suc, _<_}
 use native.Mathlib.Omega.{arith}
-use borrow.Author.Tests.{ltb-true, lt-ltb, eqb-true, eqb-false, eq-eqb, ne-eqb, not-true}
+use borrow.Author.Tests.{ltb-true, lt-ltb, eqb-true, eq-eqb, ne-eqb, not-true}
 use lib.Dec.{eqb, ltb}
-use Rattle.rules.specs.Refusal.{Refusal, refusalOf, holdsAt, earlier, absent, proper, GivenExactly, Exact}
+use Rattle.rules.specs.Refusal.{Refusal, refusalOf, holdsAt, earlier, absent, proper, Exact}
 use Rattle.rules.proofs.Facts.{either-way, and-left, and-right, or-none}
 
 -- what a proper table says of its first refusal

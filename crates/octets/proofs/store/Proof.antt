@@ -1,10 +1,10 @@
 -- The loop keeps: the places filled so far, and the bytes still to come, are the bytes of x.
 use borrow.Author.Needs.{needs}
-use mathlib.Core.Path.{_≡_, refl, _∙_, sym, ap}
-use Prim.Native.Nat.{_-_, _+_, _/_, _≤_}
+use mathlib.Core.Path.{_≡_, refl, _∙_, sym}
+use Prim.Native.Nat.{_-_, _≤_}
 use native.Mathlib.Omega.{arith}
 use native.Mathlib.Nat.{sub-zero}
-use lib.ListN.{length, set, take, length-set}
+use lib.ListN.{length, length-set}
 use Rattle.octets.specs.Bytes.{bytes}
 use Rattle.octets.proofs.Bytes.{filled, one-more, all-there}
 use Rattle.octets.proofs.store.Statement.{statement}

@@ -1,5 +1,5 @@
 use mathlib.Core.Path.{_≡_, _∙_, sym}
-use mathlib.Core.Bool.{true, false, _||_}
+use mathlib.Core.Bool.{true}
 use Prim.Native.Nat.{_<_}
 use lib.Dec.{eqb, ltb}
 use native.Mathlib.Omega.{arith}
