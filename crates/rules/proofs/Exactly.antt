@@ -8,20 +8,15 @@ use native.Mathlib.Omega.{arith}
 use borrow.Author.Tests.{ltb-true, lt-ltb, eqb-true, eqb-false, eq-eqb, ne-eqb, not-true}
 use lib.Dec.{eqb, ltb}
 use Rattle.rules.specs.Refusal.{Refusal, refusalOf, holdsAt, earlier, absent, proper, GivenExactly, Exact}
-use Rattle.rules.proofs.Facts.{and-left, and-right, or-none}
-
--- by cases on a test
-either-way : {X : Type 0} (b : Bool) → (b ≡ true → X) → (b ≡ false → X) → X
-either-way true f g = f refl
-either-way false f g = g refl
+use Rattle.rules.proofs.Facts.{either-way, and-left, and-right, or-none}
 
 -- what a proper table says of its first refusal
-record Head (r : Refusal) (rs : List Refusal) : Type 0 where
-  above : 0 < r .number
-  once : absent (r .number) rs ≡ true
-  rest : proper rs ≡ true
+pub record Head (r : Refusal) (rs : List Refusal) : Type 0 where
+  pub above : 0 < r .number
+  pub once : absent (r .number) rs ≡ true
+  pub rest : proper rs ≡ true
 
-head : (r : Refusal) (rs : List Refusal) → proper (r ∷ rs) ≡ true → Head r rs
+pub head : (r : Refusal) (rs : List Refusal) → proper (r ∷ rs) ≡ true → Head r rs
 head r rs e =
     let a = ltb 0 (r .number) in
     let b = absent (r .number) rs in

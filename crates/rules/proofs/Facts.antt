@@ -8,6 +8,11 @@ use borrow.Author.Tests.{leb-true, le-leb, eqb-true, eqb-false, eq-eqb, ne-eqb, 
 use lib.Dec.{leb, eqb}
 use Rattle.rules.specs.Test.{Test, same, differ, atMost, even, oneOf, Rule, passes, pass, kept, allKept, Says, Facts, When, Kept, AllKept}
 
+-- by cases on a test
+pub either-way : {X : Type 0} (b : Bool) → (b ≡ true → X) → (b ≡ false → X) → X
+either-way true f g = f refl
+either-way false f g = g refl
+
 pub and-left : (a b : Bool) → (a && b) ≡ true → a ≡ true
 and-left true b e = refl
 and-left false b e = e

@@ -1,0 +1,6 @@
+pub mod First
+pub mod Buffers
+pub mod Limits
+pub mod Trailers
+pub mod Writes
+pub mod Answers

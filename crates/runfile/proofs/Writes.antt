@@ -1,0 +1,70 @@
+-- What the writer answers and leaves in the buffer, from its verdict. Assumes nothing.
+use mathlib.Core.Path.{_≡_, refl, _∙_, sym, ap}
+use mathlib.Core.Bool.{_&&_}
+use mathlib.Core.List.{List, [], _∷_, _++_}
+use Prim.Native.Nat.{ℕ, _+_, _%_, _≤_}
+use native.Mathlib.Omega.{arith}
+use borrow.Author.Tests.{eq-eqb, ne-eqb, ltb-false}
+use lib.Dec.{eqb, ltb}
+use lib.ListN.{length, drop, length-append}
+use lib.Seq.{sets}
+use Rattle.rules.specs.declared.Verdict.{Verdict}
+use Rattle.rules.specs.Row.{Row, row, verdictOf}
+use Rattle.rules.proofs.Rows.{Clear, clear, clear-front, clear-back}
+use Rattle.runfile.specs.Layout.{records, trailer, fileOf}
+use Rattle.runfile.specs.Reading.{limitRows, partRows}
+use Rattle.runfile.specs.Writing.{fileLength, writeRows, wrote, writeOf, outOf, Written}
+use Rattle.runfile.proofs.Buffers.{in-front}
+use Rattle.runfile.proofs.Limits.{Within, within}
+use Rattle.runfile.proofs.Trailers.{length-trailer}
+
+pub length-file : (x n : ℕ) (table turns : List ℕ) → length (fileOf x n table turns) ≡ fileLength table turns
+unfolding fileOf
+length-file x n table turns =
+    simp length-append (omega (arith, length-trailer (trailer x n (records table) (length turns))))
+
+module _ (n : ℕ) (table turns : List ℕ) (room : ℕ) where
+  abbrev numbers : List Row
+  numbers = limitRows n (records table) (length turns) (eqb (length table % 12) 0)
+
+  abbrev contents : List Row
+  contents = partRows n table turns
+
+  abbrev lastRow : List Row
+  lastRow = row 14 (ltb room (fileLength table turns)) 0 ∷ []
+
+  -- what it says that the writer refuses nothing
+  pub record Accepted : Type 0 where
+    pub rows : Clear (writeRows n table turns room)
+    pub limits : Within n (records table) (length turns) (eqb (length table % 12) 0)
+    pub parts : Clear (partRows n table turns)
+    pub fits : fileLength table turns ≤ room
+
+  pub accepted : verdictOf (writeRows n table turns room) .refused ≡ 0 → Accepted
+  accepted e =
+      let f = clear (writeRows n table turns room) refl e in
+      let g = clear-back numbers (contents ++ lastRow) f in
+      record {
+        rows = f;
+        limits = within n (records table) (length turns) (eqb (length table % 12) 0) (clear-front numbers (contents ++ lastRow) f);
+        parts = clear-front contents lastRow g;
+        fits = ltb-false room (fileLength table turns) (clear-back contents lastRow g .0);
+      }
+
+module _ (x n : ℕ) (table turns out : List ℕ) (v : Verdict) (e : v ≡ verdictOf (writeRows n table turns (length out))) where
+  pub refuses : (v .refused ≡ 0 → ⊥) → Written x n table turns out (wrote (v .refused) (v .k) 0) out
+  unfolding writeOf outOf
+  refuses h =
+      let b = ne-eqb (v .refused) 0 h in
+      record { answered = simp (sym e, b); left = simp (sym e, b, b) }
+
+  pub writes : v .refused ≡ 0 → (after : List ℕ) → after ≡ sets out 0 (fileOf x n table turns)
+      → Written x n table turns out (wrote 0 0 (fileLength table turns)) after
+  unfolding writeOf outOf
+  writes h after s =
+      let b = eq-eqb (v .refused) 0 h in
+      let f = accepted n table turns (length out) (sym (ap (λ w. w .refused) e) ∙ h) in
+      record {
+        answered = simp (sym e, b);
+        left = simp (sym e, b) (s ∙ in-front out (fileOf x n table turns) (fileLength table turns) (length-file x n table turns) (f .fits));
+      }

@@ -1,0 +1,4 @@
+pub mod First
+pub mod Layout
+pub mod Reading
+pub mod Writing
