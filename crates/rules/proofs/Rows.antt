@@ -4,7 +4,7 @@ use mathlib.Core.Bool.{Bool, true, false, cond, not, _&&_}
 use mathlib.Core.List.{List, [], _∷_, _++_}
 use Prim.Native.Nat.{ℕ, _<_}
 use native.Mathlib.Omega.{arith}
-use borrow.Author.Tests.{eqb-false, eq-eqb, ne-eqb, not-true}
+use borrow.Author.Tests.{eqb-true, eqb-false, eq-eqb, ne-eqb, not-true}
 use lib.Dec.{eqb}
 use Rattle.rules.specs.declared.Verdict.{Verdict}
 use Rattle.rules.specs.Refusal.{refusal, refusalOf, absent, proper, Exact}
@@ -44,6 +44,15 @@ clear (r ∷ rs) p e =
     either-way (r .holds)
     (λ t. absurd (let z : r .number ≡ 0 = rw t at e in omega (arith, top r rs p .above)))
     (λ f. (f, clear rs (top r rs p .rest) (rw f at e)))
+
+-- nothing refused is zeros
+pub silent : (rs : List Row) → proper (refusals rs) ≡ true → verdictOf rs .refused ≡ 0 → verdictOf rs ≡ verdict 0 0
+silent rs p e = none-given rs (clear rs p e)
+
+-- a number of an answer that is chosen by whether the verdict refuses
+pub chosen : {X : Type 0} (number : X → ℕ) (v : Verdict) (good bad : X) {w : ℕ}
+    → (v .refused ≡ 0 → number good ≡ w) → number bad ≡ w → number (cond (eqb (v .refused) 0) good bad) ≡ w
+chosen number v good bad g b = either-way (eqb (v .refused) 0) (λ t. rw t (g (eqb-true (v .refused) 0 t))) (λ u. rw u b)
 
 -- of two tables one after the other, the second is looked at where the first gives nothing
 after : (rs qs : List Row) → proper (refusals rs) ≡ true

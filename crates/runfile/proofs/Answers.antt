@@ -10,7 +10,7 @@ use lib.ListN.{length}
 use Rattle.rules.specs.declared.Verdict.{Verdict}
 use Rattle.rules.specs.Row.{Row, verdict, verdictOf}
 use Rattle.rules.proofs.Facts.{either-way, or-none}
-use Rattle.rules.proofs.Rows.{Clear, clear, clear-front, clear-back, stopped, passed}
+use Rattle.rules.proofs.Rows.{Clear, clear, clear-front, clear-back, none-given, silent, chosen, stopped, passed}
 use Rattle.runfile.specs.declared.Trailer.{Trailer}
 use Rattle.runfile.specs.declared.ReadAnswer.{ReadAnswer}
 use Rattle.runfile.specs.Reading.{limitRows, partRows, agrees, trailerAt, tableBy, turnsBy, trailerRows, readRows, noRun, runBy, readBy, readOf}
@@ -76,6 +76,25 @@ good f c =
       agree = agreed (length f) z (w .agreed);
       parts = clear-back ls ps (c .1 .1);
     }
+
+-- a file of which no row holds is read
+pub reads : (f : List ℕ) → Clear (readRows f) → readOf f ≡ runBy (trailerAt f)
+unfolding readOf
+reads f c = ap (readBy (trailerAt f)) (none-given (readRows f) c)
+
+-- the answer's number and K are those of its rows
+module _ (f : List ℕ) where
+  abbrev v : Verdict
+  v = verdictOf (readRows f)
+
+  pub read-number : readOf f .refused ≡ verdictOf (readRows f) .refused
+  unfolding readOf
+  read-number = chosen (λ r. r .refused) v (runBy (trailerAt f)) (noRun (v .refused) (v .k)) sym refl
+
+  pub read-k : readOf f .k ≡ verdictOf (readRows f) .k
+  unfolding readOf
+  read-k =
+      chosen (λ r. r .k) v (runBy (trailerAt f)) (noRun (v .refused) (v .k)) (λ e. sym (ap (λ w. w .k) (silent (readRows f) refl e))) refl
 
 -- what holds of each refusal, and of the answer to a good file, holds of the answer
 pub by-answer : (f : List ℕ) (P : ReadAnswer → Type 0) → ((r k : ℕ) → (r ≡ 0 → ⊥) → P (noRun r k))

@@ -4,3 +4,5 @@ pub mod Limits
 pub mod Trailers
 pub mod Writes
 pub mod Answers
+pub mod Trips
+pub mod Exact

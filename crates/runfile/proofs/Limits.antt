@@ -3,9 +3,9 @@ use mathlib.Core.Path.{_≡_}
 use mathlib.Core.Bool.{Bool, true, _&&_, _||_}
 use Prim.Native.Nat.{ℕ, _+_, _*_, _≤_}
 use native.Mathlib.Omega.{arith}
-use borrow.Author.Tests.{eqb-true, ltb-false, not-false}
+use borrow.Author.Tests.{eqb-true, eq-eqb, ltb-false, not-false}
 use lib.Dec.{eqb, ltb}
-use Rattle.rules.proofs.Facts.{and-left, and-right, or-none}
+use Rattle.rules.proofs.Facts.{and-left, and-right, and-both, or-none}
 use Rattle.rules.proofs.Rows.{Clear}
 use Rattle.runfile.specs.declared.Trailer.{Trailer}
 use Rattle.runfile.specs.Reading.{limitRows, agrees}
@@ -25,6 +25,10 @@ within n q t agree f =
       agreed = not-false agree (f .1 .1 .1 .0);
     }
 
+-- the same numbers, where what must agree for 6 is another matter
+pub agreed-anew : (n q t : ℕ) (a b : Bool) → b ≡ true → Clear (limitRows n q t a) → Clear (limitRows n q t b)
+agreed-anew n q t a b e f = (f .0, (f .1 .0, (f .1 .1 .0, (rw e, tt))))
+
 -- the distances and the length agree
 pub record Agreed (len : ℕ) (z : Trailer) : Type 0 where
   pub first : z .first ≡ z .second + 12 * z .q
@@ -35,3 +39,6 @@ agreed len z e =
     let a = eqb (z .first) (z .second + 12 * z .q) in
     let b = eqb len (16 + z .first) in
     record { first = eqb-true (z .first) (z .second + 12 * z .q) (and-left a b e); whole = eqb-true len (16 + z .first) (and-right a b e) }
+
+pub agreeing : (len : ℕ) (z : Trailer) → Agreed len z → agrees len z ≡ true
+agreeing len z a = and-both (eq-eqb (z .first) (z .second + 12 * z .q) (a .first)) (eq-eqb len (16 + z .first) (a .whole))

@@ -1,6 +1,6 @@
 -- What the writer answers and leaves in the buffer, from its verdict. Assumes nothing.
 use mathlib.Core.Path.{_≡_, refl, _∙_, sym, ap}
-use mathlib.Core.Bool.{_&&_}
+use mathlib.Core.Bool.{cond}
 use mathlib.Core.List.{List, [], _∷_, _++_}
 use Prim.Native.Nat.{ℕ, _+_, _%_, _≤_}
 use native.Mathlib.Omega.{arith}
@@ -10,10 +10,11 @@ use lib.ListN.{length, drop, length-append}
 use lib.Seq.{sets}
 use Rattle.rules.specs.declared.Verdict.{Verdict}
 use Rattle.rules.specs.Row.{Row, row, verdictOf}
-use Rattle.rules.proofs.Rows.{Clear, clear, clear-front, clear-back}
+use Rattle.rules.proofs.Rows.{Clear, none-given, silent, chosen, clear, clear-front, clear-back}
+use Rattle.runfile.specs.declared.WriteAnswer.{WriteAnswer}
 use Rattle.runfile.specs.Layout.{records, trailer, fileOf}
 use Rattle.runfile.specs.Reading.{limitRows, partRows}
-use Rattle.runfile.specs.Writing.{fileLength, writeRows, wrote, writeOf, outOf, Written}
+use Rattle.runfile.specs.Writing.{fileLength, writeRows, wrote, writeBy, writeOf, outOf, Written}
 use Rattle.runfile.proofs.Buffers.{in-front}
 use Rattle.runfile.proofs.Limits.{Within, within}
 use Rattle.runfile.proofs.Trailers.{length-trailer}
@@ -51,6 +52,22 @@ module _ (n : ℕ) (table turns : List ℕ) (room : ℕ) where
         fits = ltb-false room (fileLength table turns) (clear-back contents lastRow g .0);
       }
 
+-- the answer's number and K are those of its rows
+module _ (n : ℕ) (table turns : List ℕ) (room : ℕ) where
+  abbrev v : Verdict
+  v = verdictOf (writeRows n table turns room)
+
+  abbrev done : WriteAnswer
+  done = wrote 0 0 (fileLength table turns)
+
+  pub write-number : writeOf n table turns room .refused ≡ verdictOf (writeRows n table turns room) .refused
+  unfolding writeOf
+  write-number = chosen (λ r. r .refused) v done (wrote (v .refused) (v .k) 0) sym refl
+
+  pub write-k : writeOf n table turns room .k ≡ verdictOf (writeRows n table turns room) .k
+  unfolding writeOf
+  write-k = chosen (λ r. r .k) v done (wrote (v .refused) (v .k) 0) (λ e. sym (ap (λ w. w .k) (silent (writeRows n table turns room) refl e))) refl
+
 module _ (x n : ℕ) (table turns out : List ℕ) (v : Verdict) (e : v ≡ verdictOf (writeRows n table turns (length out))) where
   pub refuses : (v .refused ≡ 0 → ⊥) → Written x n table turns out (wrote (v .refused) (v .k) 0) out
   unfolding writeOf outOf
@@ -68,3 +85,12 @@ module _ (x n : ℕ) (table turns out : List ℕ) (v : Verdict) (e : v ≡ verdi
         answered = simp (sym e, b);
         left = simp (sym e, b) (s ∙ in-front out (fileOf x n table turns) (fileLength table turns) (length-file x n table turns) (f .fits));
       }
+
+-- where no row holds, the file stands in front of the buffer
+pub clear-writes : (x n : ℕ) (table turns out : List ℕ) (answer : WriteAnswer) (after : List ℕ) → Clear (writeRows n table turns (length out))
+    → Written x n table turns out answer after
+    → (answer ≡ wrote 0 0 (fileLength table turns)) × (after ≡ fileOf x n table turns ++ drop (fileLength table turns) out)
+unfolding writeOf outOf
+clear-writes x n table turns out answer after c w =
+    let e = none-given (writeRows n table turns (length out)) c in
+    (w .answered ∙ ap (λ v. writeBy v (fileLength table turns)) e, w .left ∙ ap (λ v. cond (eqb (writeBy v (fileLength table turns) .refused) 0) (fileOf x n table turns ++ drop (fileLength table turns) out) out) e)

@@ -3,8 +3,19 @@
 // reading, writing, and promises (what is proved of both together).
 mod checks;
 mod layout;
+mod promises;
 mod reading;
 mod writing;
+
+pub use layout::call_at;
+pub use promises::read_writes_back;
+pub use promises::refused_exactly;
+pub use promises::writer_is_settled;
+pub use promises::written_reads_back;
+pub use reading::read;
+pub use reading::table;
+pub use reading::turns;
+pub use writing::write;
 
 // What is read of a file: x, n, the number of calls q and of turns t. The call table starts at start, the turns at middle.
 // Refused, all but refused and k are zero.

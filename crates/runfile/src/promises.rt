@@ -1,0 +1,22 @@
+// What is proved of reading and writing together; each function stands for the promise that it ensures.
+ghost use Rattle.runfile.specs.Promise.{WrittenReadsBack, ReadWritesBack, RefusedExactly, WriterSettled};
+
+// What is read from a written file is what was written.
+pub fn written_reads_back()
+    ensures { λ r. ⌜ WrittenReadsBack ⌝ }
+{}
+
+// A file that reads well is, byte for byte, what the writer makes of what was read.
+pub fn read_writes_back()
+    ensures { λ r. ⌜ ReadWritesBack ⌝ }
+{}
+
+// Reader and writer refuse exactly when a row of the table holds, with the first such call or turn as K.
+pub fn refused_exactly()
+    ensures { λ r. ⌜ RefusedExactly ⌝ }
+{}
+
+// The writer's contract allows one answer and one buffer for each input.
+pub fn writer_is_settled()
+    ensures { λ r. ⌜ WriterSettled ⌝ }
+{}
