@@ -22,14 +22,14 @@ fn first_call(n: u32, table: &[u8]) -> usize
     ensures { λ r. ⌜ r ≡ firstCall n (now (table .entry)) ⌝ }
 {
     let q = table.len() / 12;
-    let mut i = 0;
-    while i < q {
-        let a = 12 * i;
+    let mut call = 0;
+    while call < q {
+        let a = 12 * call;
         let e = a + 12;
         if bad_call(n, &table[a..e]) {
-            return i + 1;
+            return call + 1;
         }
-        i = i + 1;
+        call = call + 1;
     }
     0
 }
@@ -44,13 +44,13 @@ fn wide(b: u8) -> u32
 fn first_turn(n: u32, turns: &[u8]) -> usize
     ensures { λ r. ⌜ r ≡ firstTurn n (now (turns .entry)) ⌝ }
 {
-    let mut i = 0;
-    while i < turns.len() {
-        let b = wide(turns[i]);
+    let mut turn = 0;
+    while turn < turns.len() {
+        let b = wide(turns[turn]);
         if (b == 0) | (n < b) {
-            return i + 1;
+            return turn + 1;
         }
-        i = i + 1;
+        turn = turn + 1;
     }
     0
 }

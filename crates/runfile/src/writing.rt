@@ -90,13 +90,13 @@ fn writable(n: u32, table: &[u8], turns: &[u8], room: usize) -> Verdict
 pub fn write(x: u32, n: u32, table: &[u8], turns: &[u8], out: &mut [u8]) -> WriteAnswer
     ensures { λ r. ⌜ Written x n (now (table .entry)) (now (turns .entry)) (now (out .entry)) r (now (out .exit)) ⌝ }
 {
-    let len = table.len();
+    let l = table.len();
     let t = turns.len();
-    let v = writable(n, table, turns, out.len());
-    if v.refused != 0 {
+    let found = writable(n, table, turns, out.len());
+    if found.refused != 0 {
         return WriteAnswer {
-            refused: v.refused,
-            k: v.k,
+            refused: found.refused,
+            k: found.k,
             len: 0,
         };
     }
@@ -104,6 +104,6 @@ pub fn write(x: u32, n: u32, table: &[u8], turns: &[u8], out: &mut [u8]) -> Writ
     WriteAnswer {
         refused: 0,
         k: 0,
-        len: 16 + t + len,
+        len: 16 + t + l,
     }
 }

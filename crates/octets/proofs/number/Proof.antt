@@ -17,6 +17,13 @@ Inv-loop part x₀ i₀ x i = (i ≤ 8) × ((i ≤ length part) × (x ≡ spelle
 abbrev μ-loop : tie.MeasureT-loop
 μ-loop part x₀ i₀ x i = i
 
+starts : tie.Need-loop-holds Inv-loop μ-loop
+starts c =
+    let none = none-left 8 (c .before .before .args .part .now) (c .if1 .i) in
+    ⊎-elim (λ w. (omega arith, (omega arith, sym (none (inr (omega arith))))))
+    (λ w. (omega arith, (omega arith, sym (none (inl (omega arith))))))
+    (c .if1 .came)
+
 -- the part, the place before this turn of the loop, and the sum that the turn makes
 abbrev S : tie.After-wide Inv-loop μ-loop → List ℕ
 S c = c .before .before .before .before .before .before .before .args .part .now
@@ -39,10 +46,7 @@ next-fits c =
 pub number-spec : {M : Type 1} → statement M
 number-spec =
     tie.close
-    (tie.spec Inv-loop μ-loop
-    (λ c.
-    let s = c .before .before .args .part .now in
-    ⊎-elim (λ w. (omega arith, (omega arith, sym (none-left 8 s (c .if1 .i) (inr (omega arith)))))) (λ w. (omega arith, (omega arith, sym (none-left 8 s (c .if1 .i) (inl (omega arith)))))) (c .if1 .came))
+    (tie.spec Inv-loop μ-loop starts
     (λ c. search needs)
     (λ c. search needs)
     (λ c κs. search needs)

@@ -14,18 +14,18 @@ use Rattle.runfile.proofs.checks.first_call.Statement.{statement}
 use Rattle.runfile.proofs.checks.first_call.Tie as tie
 
 abbrev Inv-loop : tie.InvT-loop
-Inv-loop n table q i₀ i =
-    (i ≤ q) × ((q ≡ records table) × (firstCall n table ≡ firstFrom (badCallAt n table) i (q - i)))
+Inv-loop n table q call₀ call =
+    (call ≤ q) × ((q ≡ records table) × (firstCall n table ≡ firstFrom (badCallAt n table) call (q - call)))
 
 abbrev μ-loop : tie.MeasureT-loop
-μ-loop n table q i₀ i = q - i
+μ-loop n table q call₀ call = q - call
 
 starts : tie.Need-loop-holds Inv-loop μ-loop
 unfolding firstCall
 starts c = (search needs, (refl, simp sub-zero))
 
 -- what the call told of the record that was looked at
-told : (c : tie.After-bad-call Inv-loop μ-loop) → badCallAt (c .before .before .before .before .before .args .n) (c .before .before .before .before .before .args .table .now) (c .before .before .before .loop .i) ≡ c .bad-call .result
+told : (c : tie.After-bad-call Inv-loop μ-loop) → badCallAt (c .before .before .before .before .before .args .n) (c .before .before .before .before .before .args .table .now) (c .before .before .before .loop .call) ≡ c .bad-call .result
 told c = sym (simp add-sub-cancel-left at (c .bad-call .ensures))
 
 pub first-call-spec : {M : Type 1} → statement M

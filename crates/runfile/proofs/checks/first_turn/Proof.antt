@@ -11,10 +11,10 @@ use Rattle.runfile.proofs.checks.first_turn.Statement.{statement}
 use Rattle.runfile.proofs.checks.first_turn.Tie as tie
 
 abbrev Inv-loop : tie.InvT-loop
-Inv-loop n turns i₀ i = (i ≤ length turns) × (firstTurn n turns ≡ firstFrom (badTurnAt n turns) i (length turns - i))
+Inv-loop n turns turn₀ turn = (turn ≤ length turns) × (firstTurn n turns ≡ firstFrom (badTurnAt n turns) turn (length turns - turn))
 
 abbrev μ-loop : tie.MeasureT-loop
-μ-loop n turns i₀ i = length turns - i
+μ-loop n turns turn₀ turn = length turns - turn
 
 starts : tie.Need-loop-holds Inv-loop μ-loop
 unfolding firstTurn
