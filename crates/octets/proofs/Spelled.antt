@@ -1,11 +1,11 @@
 -- The number that bytes spell: its two laws over the width, and a byte more from the right. Assumes nothing.
-use mathlib.Core.Path.{_≡_, refl, _∙_, sym, ap}
-use mathlib.Core.Logic.{_⊎_, inl, inr, ⊎-elim}
+use mathlib.Core.Path.{_≡_, refl, _∙_, ap}
+use mathlib.Core.Logic.{_⊎_, ⊎-elim}
 use mathlib.Core.List.{List, [], _∷_}
 use Prim.Native.Nat.{ℕ, zero, suc, _+_, _*_, _-_, _/_, _%_, _^_, _<_, _≤_}
 use native.Mathlib.Omega.{arith}
 use native.Mathlib.Nat.{div-add-mod, mod-eq-of-lt, div-lt-iff-lt-mul, add-mul-mod-self-left, pow-suc, pow-le-pow-right, lt-of-lt-of-le}
-use lib.ListN.{length, getD, take, drop, length-take, length-drop, drop-of-length-le}
+use lib.ListN.{length, getD, take, drop, length-take, drop-of-length-le}
 use lib.Seq.{getD-drop, getD-take, drop-cons}
 use Rattle.octets.specs.Bytes.{bytes, spelled, AllBytes}
 use Rattle.octets.specs.Promise.{Inverse}

@@ -1,6 +1,6 @@
 -- What a table of rows gives: nothing exactly where no row holds, a row's own K with its number, and of two tables one after the other the first's. Assumes nothing.
 use mathlib.Core.Path.{_≡_, refl, _∙_, sym, ap}
-use mathlib.Core.Bool.{Bool, true, false, cond, not, _&&_}
+use mathlib.Core.Bool.{true, false, cond, not}
 use mathlib.Core.List.{List, [], _∷_, _++_}
 use Prim.Native.Nat.{ℕ, _<_}
 use native.Mathlib.Omega.{arith}
@@ -8,7 +8,7 @@ use borrow.Author.Tests.{eqb-true, eqb-false, eq-eqb, ne-eqb, not-true}
 use lib.Dec.{eqb}
 use Rattle.rules.specs.declared.Verdict.{Verdict}
 use Rattle.rules.specs.Refusal.{refusal, refusalOf, absent, proper, Exact}
-use Rattle.rules.specs.Row.{Row, verdict, verdictOf, refusals, kAt, RowsExactly, ExactRows}
+use Rattle.rules.specs.Row.{Row, verdict, verdictOf, refusals, kAt, ExactRows}
 use Rattle.rules.proofs.Facts.{either-way, and-left, and-right}
 use Rattle.rules.proofs.Exactly.{exactly, Head, head}
 

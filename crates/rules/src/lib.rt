@@ -1,5 +1,5 @@
 // What every refusing function shares: rules as lists of tests, and the lowest refusal that holds, with its K.
-// It has definitions and their laws alone; its functions stand for the laws of numbered refusals.
+// Beside the verdict it has definitions and their laws alone; its functions stand for the laws of numbered refusals.
 ghost use Rattle.rules.specs.Refusal.{Exact};
 ghost use Rattle.rules.specs.Row.{ExactRows};
 

@@ -1,42 +1,34 @@
 -- What the reader answers, from its verdict, and what a good answer says of the file. Assumes nothing.
-use mathlib.Core.Path.{_≡_, refl, _∙_, sym, ap, subst}
-use mathlib.Core.Bool.{Bool, true, false, cond, not, _||_}
-use mathlib.Core.List.{List, [], _∷_, _++_}
+use mathlib.Core.Path.{_≡_, refl, _∙_, sym, ap}
+use mathlib.Core.Bool.{false, cond}
+use mathlib.Core.List.{List, _++_}
 use Prim.Native.Nat.{ℕ, _+_, _*_, _-_, _≤_}
 use native.Mathlib.Omega.{arith}
 use borrow.Author.Tests.{eq-eqb, ne-eqb, eqb-true, eqb-false, ltb-false, not-false}
 use lib.Dec.{eqb, ltb}
 use lib.ListN.{length}
 use Rattle.rules.specs.declared.Verdict.{Verdict}
-use Rattle.rules.specs.Row.{Row, verdict, verdictOf}
+use Rattle.rules.specs.Row.{verdict, verdictOf}
 use Rattle.rules.proofs.Facts.{either-way, or-none}
 use Rattle.rules.proofs.Rows.{Clear, clear, clear-front, clear-back, none-given, silent, chosen, stopped, passed}
 use Rattle.runfile.specs.declared.Trailer.{Trailer}
 use Rattle.runfile.specs.declared.ReadAnswer.{ReadAnswer}
-use Rattle.runfile.specs.Reading.{limitRows, partRows, agrees, trailerAt, tableBy, turnsBy, trailerRows, readRows, noRun, runBy, readBy, readOf}
-use Rattle.runfile.proofs.Limits.{Within, within, Agreed, agreed}
+use Rattle.runfile.specs.Reading.{turnCount, agrees, trailerAt, numberRows, contentRows, trailerRows, badLength, readRows, noRun, runBy, readBy, readOf}
+use Rattle.runfile.specs.Promise.{TrailerPointsBack}
+use Rattle.runfile.proofs.Limits.{within, Agreed, agreed}
 
 -- the verdict on a file of form 1, from that on the trailer's numbers and that on the parts
-module _ (f : List ℕ) (z : Trailer) (form : z .form ≡ 1) where
-  abbrev numbers : List Row
-  numbers = limitRows (z .n) (z .q) (z .second) (agrees (length f) z)
-
-  abbrev contents : List Row
-  contents = partRows (z .n) (tableBy z f) (turnsBy z f)
-
-  past-form : verdictOf (trailerRows f z) ≡ verdictOf (numbers ++ contents)
+module _ (f : List ℕ) (z : Trailer) (form : z .form ≡ 1) (v : Verdict) (e : v ≡ verdictOf (numberRows f z)) where
+  past-form : verdictOf (trailerRows f z) ≡ verdictOf (numberRows f z ++ contentRows f z)
   past-form = rw (eq-eqb (z .form) 1 form)
 
-  module _ (v : Verdict) (e : v ≡ verdictOf (limitRows (z .n) (z .q) (z .second) (agrees (length f) z))) where
-    pub numbers-refuse : (v .refused ≡ 0 → ⊥) → v ≡ verdictOf (trailerRows f z)
-    numbers-refuse h = stopped numbers contents refl e h ∙ sym past-form
+  pub numbers-refuse : (v .refused ≡ 0 → ⊥) → v ≡ verdictOf (trailerRows f z)
+  numbers-refuse h = stopped (numberRows f z) (contentRows f z) refl e h ∙ sym past-form
 
-    pub parts-decide : v .refused ≡ 0 → (w : Verdict) → w ≡ verdictOf (partRows (z .n) (tableBy z f) (turnsBy z f)) → w ≡ verdictOf (trailerRows f z)
-    parts-decide h w d = d ∙ sym (past-form ∙ passed numbers contents refl e h)
+  pub parts-decide : v .refused ≡ 0 → (w : Verdict) → w ≡ verdictOf (contentRows f z) → w ≡ verdictOf (trailerRows f z)
+  parts-decide h w d = d ∙ sym (past-form ∙ passed (numberRows f z) (contentRows f z) refl e h)
 
-abbrev pub badLength : List ℕ → Bool
-badLength f = ltb (length f) 16 || ltb 53264 (length f)
-
+-- the answer to a file with a trailer, from the verdict on it
 module _ (f : List ℕ) (h : badLength f ≡ false) (z : Trailer) (y : z ≡ trailerAt f) (v : Verdict) (e : v ≡ verdictOf (trailerRows f z)) where
   judged : readOf f ≡ readBy z v
   unfolding readOf
@@ -55,26 +47,20 @@ module _ (f : List ℕ) (h : badLength f ≡ false) (z : Trailer) (y : z ≡ tra
 pub record Good (f : List ℕ) (z : Trailer) : Type 0 where
   pub long : 16 ≤ length f
   pub form : z .form ≡ 1
-  pub rows : Clear (limitRows (z .n) (z .q) (z .second) (agrees (length f) z))
-  pub limits : Within (z .n) (z .q) (z .second) (agrees (length f) z)
+  pub numbers : Clear (numberRows f z)
   pub agree : Agreed (length f) z
-  pub parts : Clear (partRows (z .n) (tableBy z f) (turnsBy z f))
+  pub contents : Clear (contentRows f z)
 
 good : (f : List ℕ) → Clear (readRows f) → Good f (trailerAt f)
 good f c =
     let z = trailerAt f in
-    let a = agrees (length f) z in
-    let ls = limitRows (z .n) (z .q) (z .second) a in
-    let ps = partRows (z .n) (tableBy z f) (turnsBy z f) in
-    let l = clear-front ls ps (c .1 .1) in
-    let w = within (z .n) (z .q) (z .second) a l in
+    let l = clear-front (numberRows f z) (contentRows f z) (c .1 .1) in
     record {
       long = ltb-false (length f) 16 (or-none (ltb (length f) 16) (ltb 53264 (length f)) (c .0) .0);
       form = eqb-true (z .form) 1 (not-false (eqb (z .form) 1) (c .1 .0));
-      rows = l;
-      limits = w;
-      agree = agreed (length f) z (w .agreed);
-      parts = clear-back ls ps (c .1 .1);
+      numbers = l;
+      agree = agreed (length f) z (within (z .n) (z .q) (turnCount z) (agrees (length f) z) l .agreed);
+      contents = clear-back (numberRows f z) (contentRows f z) (c .1 .1);
     }
 
 -- a file of which no row holds is read
@@ -117,3 +103,14 @@ inside f =
     (λ g.
     let a = g .agree in
     record { table = omega arith; turns = omega arith })
+
+pub points-back : TrailerPointsBack
+unfolding TrailerPointsBack
+points-back f e =
+    let b = by-answer f
+    (λ r. r .refused ≡ 0 → (r .start + trailerAt f .first + 16 ≡ length f) × (r .middle + trailerAt f .second + 16 ≡ length f))
+    (λ r k n e. absurd (n e))
+    (λ g e.
+    let a = g .agree in
+    (omega arith, omega arith)) e in
+    record { toCalls = b .0; toTurns = b .1 }

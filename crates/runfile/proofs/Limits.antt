@@ -1,8 +1,7 @@
 -- What it says of the numbers that refusals 3 to 6 do not hold. Assumes nothing.
 use mathlib.Core.Path.{_≡_}
-use mathlib.Core.Bool.{Bool, true, _&&_, _||_}
+use mathlib.Core.Bool.{Bool, true}
 use Prim.Native.Nat.{ℕ, _+_, _*_, _≤_}
-use native.Mathlib.Omega.{arith}
 use borrow.Author.Tests.{eqb-true, eq-eqb, ltb-false, not-false}
 use lib.Dec.{eqb, ltb}
 use Rattle.rules.proofs.Facts.{and-left, and-right, and-both, or-none}

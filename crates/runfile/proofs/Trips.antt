@@ -1,25 +1,23 @@
 -- The two round trips: what is written reads as the same run, and a file that reads well is written again byte for byte. Assumes nothing.
 use mathlib.Core.Path.{_≡_, refl, _∙_, sym, ap, subst}
-use mathlib.Core.Bool.{Bool, true, false, cond, not, _&&_, _||_}
-use mathlib.Core.List.{List, [], _∷_, _++_, append-assoc}
-use Prim.Native.Nat.{ℕ, _+_, _*_, _-_, _/_, _%_, _^_, _<_, _≤_}
+use mathlib.Core.List.{List, _∷_, _++_, append-assoc}
+use Prim.Native.Nat.{ℕ, _+_, _*_, _-_, _%_, _^_, _<_, _≤_}
 use native.Mathlib.Omega.{arith}
 use borrow.Author.Tests.{eqb-true, eq-eqb, le-ltb}
-use lib.Dec.{eqb, ltb}
+use lib.Dec.{eqb}
 use lib.ListN.{length, take, drop, length-append}
 use lib.Seq.{take-at, drop-at, take-add, take-all}
 use Rattle.octets.specs.Bytes.{AllBytes}
 use Rattle.rules.specs.Row.{row}
-use Rattle.rules.proofs.Rows.{Clear, clear-front, clear-both}
+use Rattle.rules.proofs.Rows.{Clear, clear-both}
 use Rattle.runfile.specs.declared.Trailer.{Trailer}
-use Rattle.runfile.specs.declared.ReadAnswer.{ReadAnswer}
 use Rattle.runfile.specs.declared.WriteAnswer.{WriteAnswer}
 use Rattle.runfile.specs.Layout.{part, records, trailerOf, trailer, trailerBytes, fileOf}
-use Rattle.runfile.specs.Reading.{limitRows, partRows, agrees, trailerAt, tableBy, turnsBy, trailerRows, readRows, runBy, readOf, tableOf, turnsOf}
-use Rattle.runfile.specs.Writing.{fileLength, writeRows, wrote, Written}
+use Rattle.runfile.specs.Reading.{partRows, turnCount, agrees, trailerAt, tableBy, turnsBy, numberRows, contentRows, trailerRows, badLength, readRows, runBy, readOf}
+use Rattle.runfile.specs.Writing.{fileLength, lengthRows, roomRows, writeRows, wrote, Written}
 use Rattle.runfile.specs.Promise.{Holds, WrittenReadsBack, WrittenAs, ReadWritesBack}
 use Rattle.runfile.proofs.Answers.{Good, by-answer, reads}
-use Rattle.runfile.proofs.Limits.{Agreed, agreed-anew, agreeing}
+use Rattle.runfile.proofs.Limits.{agreed-anew, agreeing}
 use Rattle.runfile.proofs.Trailers.{length-part, bytes-part, length-trailer, told, told-again}
 use Rattle.runfile.proofs.Writes.{length-file, Accepted, accepted, write-number, clear-writes}
 
@@ -60,15 +58,13 @@ module _ (x n : ℕ) (table turns : List ℕ) (room : ℕ) (h : x < 2 ^ 32) (a :
       let l = a .limits in
       let w = whole in
       let e = length-file x n table turns in
-      let ls = limitRows n q (length turns) (eqb (length table % 12) 0) in
-      let rest = partRows n table turns ++ (row 14 (ltb room (fileLength table turns)) 0 ∷ []) in
       let g = agreeing (length F) z (record { first = refl; whole = omega arith }) in
-      subst (λ y. Clear (row 1 (ltb (length F) 16 || ltb 53264 (length F)) 0 ∷ trailerRows F y)) (sym trailer-there) (
+      subst (λ y. Clear (row 1 (badLength F) 0 ∷ trailerRows F y)) (sym trailer-there) (
         rw (le-ltb (length F) 16 (omega arith), le-ltb 53264 (length F) (omega arith)),
         (
           refl,
-          clear-both (limitRows n q (length turns) (agrees (length F) z)) (partRows n (tableBy z F) (turnsBy z F))
-              (agreed-anew n q (length turns) (eqb (length table % 12) 0) (agrees (length F) z) g (clear-front ls rest (a .rows)))
+          clear-both (numberRows F z) (contentRows F z)
+              (agreed-anew n q (length turns) (eqb (length table % 12) 0) (agrees (length F) z) g (a .lengths))
               (rw (table-there, turns-there) (a .parts)),
         ),
       )
@@ -94,55 +90,61 @@ written-reads-back x n table turns out answer after h w e =
     subst (λ f. Holds f x n table turns) (sym l) (holds x n table turns (length out) h a)
 
 -- what the reader accepts, written again
-module _ (f : List ℕ) (h : AllBytes f) (z : Trailer) (e : z ≡ trailerAt f) (g : Good f z) where
-  length-table : length (tableBy z f) ≡ 12 * z .q
+module _ (f : List ℕ) (h : AllBytes f) (z : Trailer) (y : z ≡ trailerAt f) (g : Good f z) where
+  abbrev T : List ℕ
+  T = tableBy z f
+
+  abbrev U : List ℕ
+  U = turnsBy z f
+
+  length-table : length T ≡ 12 * z .q
   length-table = let a = g .agree in length-part f 0 (12 * z .q) (omega arith)
 
-  length-turns : length (turnsBy z f) ≡ z .second
-  length-turns = let a = g .agree in length-part f (12 * z .q) (z .second) (omega arith)
+  length-turns : length U ≡ turnCount z
+  length-turns = let a = g .agree in length-part f (12 * z .q) (turnCount z) (omega arith)
 
-  whole-records : records (tableBy z f) ≡ z .q
+  whole-records : records T ≡ z .q
   whole-records = omega (arith, length-table)
 
-  same-length : fileLength (tableBy z f) (turnsBy z f) ≡ length f
+  same-length : fileLength T U ≡ length f
   same-length = let a = g .agree in omega (arith, length-table, length-turns)
 
-  no-row-again : (room : ℕ) → length f ≤ room → Clear (writeRows (z .n) (tableBy z f) (turnsBy z f) room)
-  no-row-again room r =
-      let a = eqb (length (tableBy z f) % 12) 0 in
-      let m : a ≡ true = eq-eqb (length (tableBy z f) % 12) 0 (omega (arith, length-table)) in
-      let ls = agreed-anew (z .n) (z .q) (z .second) (agrees (length f) z) a m (g .rows) in
-      let last = row 14 (ltb room (fileLength (tableBy z f) (turnsBy z f))) 0 ∷ [] in
-      clear-both (limitRows (z .n) (records (tableBy z f)) (length (turnsBy z f)) a) (partRows (z .n) (tableBy z f) (turnsBy z f) ++ last)
-      (subst (λ k. Clear (limitRows (z .n) k (length (turnsBy z f)) a)) (sym whole-records) (subst (λ k. Clear (limitRows (z .n) (z .q) k a)) (sym length-turns) ls))
-      (clear-both (partRows (z .n) (tableBy z f) (turnsBy z f)) last (g .parts) (le-ltb room (fileLength (tableBy z f) (turnsBy z f)) (omega (arith, same-length)), tt))
+  no-length-row : Clear (lengthRows (z .n) T U)
+  no-length-row =
+      let a = eqb (length T % 12) 0 in
+      let m = eq-eqb (length T % 12) 0 (omega (arith, length-table)) in
+      rw (whole-records, length-turns) (agreed-anew (z .n) (z .q) (turnCount z) (agrees (length f) z) a m (g .numbers))
+
+  no-write-row : (room : ℕ) → length f ≤ room → Clear (writeRows (z .n) T U room)
+  no-write-row room r =
+      clear-both (lengthRows (z .n) T U) (partRows (z .n) T U ++ roomRows T U room) no-length-row
+      (clear-both (partRows (z .n) T U) (roomRows T U room) (g .contents) (le-ltb room (fileLength T U) (omega (arith, same-length)), tt))
 
   -- the trailer that the writer makes is the one that was read
-  same-trailer : trailer (z .x) (z .n) (records (tableBy z f)) (length (turnsBy z f)) ≡ z
+  same-trailer : trailer (z .x) (z .n) (records T) (length U) ≡ z
   same-trailer = rw (whole-records, length-turns, ← g .agree .first, ← g .form)
 
-  same-bytes : fileOf (z .x) (z .n) (tableBy z f) (turnsBy z f) ≡ f
+  same-bytes : fileOf (z .x) (z .n) T U ≡ f
   unfolding fileOf
   same-bytes =
       let a = g .agree in
-      let at : length f - 16 ≡ 12 * z .q + z .second = omega arith in
+      let e = 12 * z .q + turnCount z in
+      let at : length f - 16 ≡ e = omega arith in
       let s = part f (length f - 16) 16 in
       let l : length s ≡ 16 = length-part f (length f - 16) 16 (omega (arith, g .long)) in
-      let t : trailerBytes z ≡ s = ap trailerBytes e ∙ told-again s (bytes-part f (length f - 16) 16 h) l in
-      ap (λ w. tableBy z f ++ turnsBy z f ++ trailerBytes w) same-trailer
-      ∙ ap (λ w. tableBy z f ++ turnsBy z f ++ w) t
-      ∙ ap (λ i. tableBy z f ++ turnsBy z f ++ part f i 16) at
-      ∙ ap (λ w. w ++ part f (12 * z .q + z .second) 16) (sym (take-add (12 * z .q) (z .second) f))
-      ∙ sym (take-add (12 * z .q + z .second) 16 f)
-      ∙ take-all (12 * z .q + z .second + 16) f (omega arith)
+      let t : trailerBytes z ≡ s = ap trailerBytes y ∙ told-again s (bytes-part f (length f - 16) 16 h) l in
+      ap (λ w. T ++ U ++ w) (ap trailerBytes same-trailer ∙ t ∙ ap (λ i. part f i 16) at)
+      ∙ ap (λ w. w ++ part f e 16) (sym (take-add (12 * z .q) (turnCount z) f))
+      ∙ sym (take-add e 16 f)
+      ∙ take-all (e + 16) f (omega arith)
 
   pub again : (out : List ℕ) (answer : WriteAnswer) (after : List ℕ) → length f ≤ length out
       → Written (z .x) (z .n) (tableBy z f) (turnsBy z f) out answer after → WrittenAs f out answer after
   again out answer after r w =
-      let c = clear-writes (z .x) (z .n) (tableBy z f) (turnsBy z f) out answer after (no-row-again (length out) r) w in
+      let c = clear-writes (z .x) (z .n) T U out answer after (no-write-row (length out) r) w in
       record {
         answered = c .0 ∙ ap (wrote 0 0) same-length;
-        left = c .1 ∙ ap (λ k. fileOf (z .x) (z .n) (tableBy z f) (turnsBy z f) ++ drop k out) same-length ∙ ap (λ s. s ++ drop (length f) out) same-bytes;
+        left = c .1 ∙ ap (λ k. fileOf (z .x) (z .n) T U ++ drop k out) same-length ∙ ap (λ s. s ++ drop (length f) out) same-bytes;
       }
 
 pub read-writes-back : ReadWritesBack

@@ -1,20 +1,20 @@
 -- What the writer answers and leaves in the buffer, from its verdict. Assumes nothing.
 use mathlib.Core.Path.{_≡_, refl, _∙_, sym, ap}
 use mathlib.Core.Bool.{cond}
-use mathlib.Core.List.{List, [], _∷_, _++_}
+use mathlib.Core.List.{List, _++_}
 use Prim.Native.Nat.{ℕ, _+_, _%_, _≤_}
 use native.Mathlib.Omega.{arith}
 use borrow.Author.Tests.{eq-eqb, ne-eqb, ltb-false}
-use lib.Dec.{eqb, ltb}
+use lib.Dec.{eqb}
 use lib.ListN.{length, drop, length-append}
 use lib.Seq.{sets}
 use Rattle.rules.specs.declared.Verdict.{Verdict}
-use Rattle.rules.specs.Row.{Row, row, verdictOf}
+use Rattle.rules.specs.Row.{verdictOf}
 use Rattle.rules.proofs.Rows.{Clear, none-given, silent, chosen, clear, clear-front, clear-back}
 use Rattle.runfile.specs.declared.WriteAnswer.{WriteAnswer}
 use Rattle.runfile.specs.Layout.{records, trailer, fileOf}
-use Rattle.runfile.specs.Reading.{limitRows, partRows}
-use Rattle.runfile.specs.Writing.{fileLength, writeRows, wrote, writeBy, writeOf, outOf, Written}
+use Rattle.runfile.specs.Reading.{partRows}
+use Rattle.runfile.specs.Writing.{fileLength, lengthRows, roomRows, writeRows, wrote, writeBy, writeOf, outOf, Written}
 use Rattle.runfile.proofs.Buffers.{in-front}
 use Rattle.runfile.proofs.Limits.{Within, within}
 use Rattle.runfile.proofs.Trailers.{length-trailer}
@@ -24,33 +24,26 @@ unfolding fileOf
 length-file x n table turns =
     simp length-append (omega (arith, length-trailer (trailer x n (records table) (length turns))))
 
-module _ (n : ℕ) (table turns : List ℕ) (room : ℕ) where
-  abbrev numbers : List Row
-  numbers = limitRows n (records table) (length turns) (eqb (length table % 12) 0)
+-- what it says that the writer refuses nothing
+pub record Accepted (n : ℕ) (table turns : List ℕ) (room : ℕ) : Type 0 where
+  pub rows : Clear (writeRows n table turns room)
+  pub lengths : Clear (lengthRows n table turns)
+  pub limits : Within n (records table) (length turns) (eqb (length table % 12) 0)
+  pub parts : Clear (partRows n table turns)
+  pub fits : fileLength table turns ≤ room
 
-  abbrev contents : List Row
-  contents = partRows n table turns
-
-  abbrev lastRow : List Row
-  lastRow = row 14 (ltb room (fileLength table turns)) 0 ∷ []
-
-  -- what it says that the writer refuses nothing
-  pub record Accepted : Type 0 where
-    pub rows : Clear (writeRows n table turns room)
-    pub limits : Within n (records table) (length turns) (eqb (length table % 12) 0)
-    pub parts : Clear (partRows n table turns)
-    pub fits : fileLength table turns ≤ room
-
-  pub accepted : verdictOf (writeRows n table turns room) .refused ≡ 0 → Accepted
-  accepted e =
-      let f = clear (writeRows n table turns room) refl e in
-      let g = clear-back numbers (contents ++ lastRow) f in
-      record {
-        rows = f;
-        limits = within n (records table) (length turns) (eqb (length table % 12) 0) (clear-front numbers (contents ++ lastRow) f);
-        parts = clear-front contents lastRow g;
-        fits = ltb-false room (fileLength table turns) (clear-back contents lastRow g .0);
-      }
+pub accepted : (n : ℕ) (table turns : List ℕ) (room : ℕ) → verdictOf (writeRows n table turns room) .refused ≡ 0 → Accepted n table turns room
+accepted n table turns room e =
+    let f = clear (writeRows n table turns room) refl e in
+    let l = clear-front (lengthRows n table turns) (partRows n table turns ++ roomRows table turns room) f in
+    let g = clear-back (lengthRows n table turns) (partRows n table turns ++ roomRows table turns room) f in
+    record {
+      rows = f;
+      lengths = l;
+      limits = within n (records table) (length turns) (eqb (length table % 12) 0) l;
+      parts = clear-front (partRows n table turns) (roomRows table turns room) g;
+      fits = ltb-false room (fileLength table turns) (clear-back (partRows n table turns) (roomRows table turns room) g .0);
+    }
 
 -- the answer's number and K are those of its rows
 module _ (n : ℕ) (table turns : List ℕ) (room : ℕ) where

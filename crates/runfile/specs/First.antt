@@ -1,8 +1,6 @@
 -- The first index at which a test holds: one search for calls and turns alike. Assumes nothing.
-use mathlib.Core.Path.{_≡_}
-use mathlib.Core.Logic.{_↔_}
-use mathlib.Core.Bool.{Bool, true, false, cond}
-use Prim.Native.Nat.{ℕ, zero, suc, _<_}
+use mathlib.Core.Bool.{Bool, cond}
+use Prim.Native.Nat.{ℕ, zero, suc}
 
 -- of the m indices from i on, the first at which p holds, counted from 1; 0 where p holds at none
 unfoldable pub firstFrom : (ℕ → Bool) → ℕ → ℕ → ℕ

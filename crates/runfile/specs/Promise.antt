@@ -3,12 +3,11 @@ use mathlib.Core.Path.{_≡_}
 use mathlib.Core.Logic.{_↔_}
 use mathlib.Core.Bool.{Bool, true, false}
 use mathlib.Core.List.{List, [], _++_}
-use Prim.Native.Nat.{ℕ, suc, _+_, _-_, _^_, _<_, _≤_}
+use Prim.Native.Nat.{ℕ, _+_, _-_, _^_, _<_, _≤_}
 use lib.ListN.{length, take, drop}
 use Rattle.octets.specs.Bytes.{AllBytes}
-use Rattle.rules.specs.Refusal.{refusalOf, GivenExactly}
+use Rattle.rules.specs.Refusal.{refusalOf, holdsAt, GivenExactly}
 use Rattle.rules.specs.Row.{Row, refusals}
-use Rattle.runfile.specs.declared.ReadAnswer.{ReadAnswer}
 use Rattle.runfile.specs.declared.WriteAnswer.{WriteAnswer}
 use Rattle.runfile.specs.First.{firstOf}
 use Rattle.runfile.specs.Layout.{records}
@@ -49,10 +48,12 @@ pub record Searched (p : ℕ → Bool) (m : ℕ) : Type 0 where
   pub found : (k : ℕ) → ((firstOf p m ≡ k) × (0 < k)) ↔ First p m k
   pub none : (firstOf p m ≡ 0) ↔ ((i : ℕ) → i < m → p i ≡ false)
 
--- a refusal is given exactly when its row says so; K is the first such call for 7, the first such turn for 8, and 0 otherwise
+-- a refusal is given exactly when its row says so; 7 and 8 do where a call or a turn is bad. K is the first such call for 7, the first such turn for 8, and 0 otherwise
 pub record Exactly (rows : List Row) (refused k n : ℕ) (table turns : List ℕ) : Type 0 where
   pub number : refused ≡ refusalOf (refusals rows)
   pub exactly : GivenExactly (refusals rows)
+  pub goodCalls : (holdsAt (refusals rows) 7 ≡ false) ↔ ((i : ℕ) → i < records table → badCallAt n table i ≡ false)
+  pub goodTurns : (holdsAt (refusals rows) 8 ≡ false) ↔ ((i : ℕ) → i < length turns → badTurnAt n turns i ≡ false)
   pub call : refused ≡ 7 → First (badCallAt n table) (records table) k
   pub turn : refused ≡ 8 → First (badTurnAt n turns) (length turns) k
   pub other : (refused ≡ 7 → ⊥) → (refused ≡ 8 → ⊥) → k ≡ 0
@@ -62,6 +63,14 @@ pub record Emptied (file : List ℕ) : Type 0 where
   pub numbers : readOf file ≡ noRun (readOf file .refused) (readOf file .k)
   pub calls : tableOf file ≡ []
   pub moves : turnsOf file ≡ []
+
+-- the trailer of a file that reads well points back to the call table and to the turns
+pub record PointsBack (file : List ℕ) : Type 0 where
+  pub toCalls : readOf file .start + trailerAt file .first + 16 ≡ length file
+  pub toTurns : readOf file .middle + trailerAt file .second + 16 ≡ length file
+
+unfoldable pub TrailerPointsBack : Type 0
+TrailerPointsBack = (file : List ℕ) → readOf file .refused ≡ 0 → PointsBack file
 
 pub record RefusedExactly : Type 0 where
   pub search : (p : ℕ → Bool) (m : ℕ) → Searched p m

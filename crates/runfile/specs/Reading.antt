@@ -11,6 +11,7 @@ use Rattle.runfile.specs.declared.ReadAnswer.{ReadAnswer}
 use Rattle.runfile.specs.First.{firstOf}
 use Rattle.runfile.specs.Layout.{part, field, zeroByte, records, callBytes, trailerOf}
 
+-- a station of 0 or over n
 abbrev pub badStation : ℕ → ℕ → Bool
 badStation n station = eqb station 0 || ltb n station
 
@@ -49,34 +50,47 @@ partRows n table turns =
 abbrev pub trailerAt : List ℕ → Trailer
 trailerAt f = trailerOf (part f (length f - 16) 16)
 
--- the first distance is t + 12q; the file is exactly 16 + t + 12q bytes
+-- the second distance is the number of turns t
+abbrev pub turnCount : Trailer → ℕ
+turnCount z = z .second
+
+-- the first distance is t + 12q; the file is exactly 16 + t + 12q bytes. Over whole numbers: no sum wraps
 abbrev pub agrees : ℕ → Trailer → Bool
-agrees len z = eqb (z .first) (z .second + 12 * z .q) && eqb len (16 + z .first)
+agrees len z = eqb (z .first) (turnCount z + 12 * z .q) && eqb len (16 + z .first)
 
 -- the parts that the trailer's numbers name
 abbrev pub tableBy : Trailer → List ℕ → List ℕ
 tableBy z f = part f 0 (12 * z .q)
 
 abbrev pub turnsBy : Trailer → List ℕ → List ℕ
-turnsBy z f = part f (12 * z .q) (z .second)
+turnsBy z f = part f (12 * z .q) (turnCount z)
+
+-- 3 to 6 of the numbers in a trailer, 7 and 8 of the parts that they name
+abbrev pub numberRows : List ℕ → Trailer → List Row
+numberRows f z = limitRows (z .n) (z .q) (turnCount z) (agrees (length f) z)
+
+abbrev pub contentRows : List ℕ → Trailer → List Row
+contentRows f z = partRows (z .n) (tableBy z f) (turnsBy z f)
 
 -- 2: form not 1; then 3 to 8
 abbrev pub trailerRows : List ℕ → Trailer → List Row
-trailerRows f z =
-    row 2 (not (eqb (z .form) 1)) 0
-    ∷ limitRows (z .n) (z .q) (z .second) (agrees (length f) z) ++ partRows (z .n) (tableBy z f) (turnsBy z f)
+trailerRows f z = row 2 (not (eqb (z .form) 1)) 0 ∷ numberRows f z ++ contentRows f z
 
 -- 1: file under 16 or over 53,264 bytes; then 2 to 8
-abbrev pub readRows : List ℕ → List Row
-readRows f = row 1 (ltb (length f) 16 || ltb 53264 (length f)) 0 ∷ trailerRows f (trailerAt f)
+abbrev pub badLength : List ℕ → Bool
+badLength f = ltb (length f) 16 || ltb 53264 (length f)
 
+abbrev pub readRows : List ℕ → List Row
+readRows f = row 1 (badLength f) 0 ∷ trailerRows f (trailerAt f)
+
+-- a refused answer has zero in its other numbers
 abbrev pub noRun : ℕ → ℕ → ReadAnswer
 noRun refused k = record { refused = refused; k = k; x = 0; n = 0; q = 0; t = 0; start = 0; middle = 0 }
 
+-- the call table stands at the front, the turns after it
 abbrev pub runBy : Trailer → ReadAnswer
-runBy z = record { refused = 0; k = 0; x = z .x; n = z .n; q = z .q; t = z .second; start = 0; middle = 12 * z .q }
+runBy z = record { refused = 0; k = 0; x = z .x; n = z .n; q = z .q; t = turnCount z; start = 0; middle = 12 * z .q }
 
--- a refused answer has zero in its other numbers
 abbrev pub readBy : Trailer → Verdict → ReadAnswer
 readBy z v = cond (eqb (v .refused) 0) (runBy z) (noRun (v .refused) (v .k))
 

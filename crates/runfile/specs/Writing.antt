@@ -15,11 +15,17 @@ use Rattle.runfile.specs.Reading.{limitRows, partRows}
 abbrev pub fileLength : List ℕ → List ℕ → ℕ
 fileLength table turns = 16 + length turns + length table
 
--- 3, 4 (whole records counted), 5, 6 (table length no multiple of 12), 7, 8; 14: lent buffer shorter than the output
+-- 3, 4 (whole records counted), 5, 6 (table length no multiple of 12)
+abbrev pub lengthRows : ℕ → List ℕ → List ℕ → List Row
+lengthRows n table turns = limitRows n (records table) (length turns) (eqb (length table % 12) 0)
+
+-- 14: lent buffer shorter than the output
+abbrev pub roomRows : List ℕ → List ℕ → ℕ → List Row
+roomRows table turns room = row 14 (ltb room (fileLength table turns)) 0 ∷ []
+
+-- 3, 4, 5, 6, 7, 8, 14
 abbrev pub writeRows : ℕ → List ℕ → List ℕ → ℕ → List Row
-writeRows n table turns room =
-    limitRows n (records table) (length turns) (eqb (length table % 12) 0)
-    ++ (partRows n table turns ++ (row 14 (ltb room (fileLength table turns)) 0 ∷ []))
+writeRows n table turns room = lengthRows n table turns ++ (partRows n table turns ++ roomRows table turns room)
 
 abbrev pub wrote : ℕ → ℕ → ℕ → WriteAnswer
 wrote refused k len = record { refused = refused; k = k; len = len }

@@ -10,6 +10,7 @@ mod writing;
 pub use layout::call_at;
 pub use promises::read_writes_back;
 pub use promises::refused_exactly;
+pub use promises::trailer_points_back;
 pub use promises::writer_is_settled;
 pub use promises::written_reads_back;
 pub use reading::read;

@@ -1,5 +1,5 @@
 // What is proved of reading and writing together; each function stands for the promise that it ensures.
-ghost use Rattle.runfile.specs.Promise.{WrittenReadsBack, ReadWritesBack, RefusedExactly, WriterSettled};
+ghost use Rattle.runfile.specs.Promise.{WrittenReadsBack, ReadWritesBack, TrailerPointsBack, RefusedExactly, WriterSettled};
 
 // What is read from a written file is what was written.
 pub fn written_reads_back()
@@ -9,6 +9,11 @@ pub fn written_reads_back()
 // A file that reads well is, byte for byte, what the writer makes of what was read.
 pub fn read_writes_back()
     ensures { λ r. ⌜ ReadWritesBack ⌝ }
+{}
+
+// The trailer of a file that reads well points back to the call table and to the turns.
+pub fn trailer_points_back()
+    ensures { λ r. ⌜ TrailerPointsBack ⌝ }
 {}
 
 // Reader and writer refuse exactly when a row of the table holds, with the first such call or turn as K.

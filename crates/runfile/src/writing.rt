@@ -46,6 +46,7 @@ fn put_trailer(out: &mut [u8], at: usize, z: Trailer)
     put(out, at + 12, 4, z.second);
 }
 
+// Writes the whole file to the front of the buffer. Its length is bounded so that the trailer's numbers fit their fields.
 fn put_file(out: &mut [u8], x: u32, n: u32, table: &[u8], turns: &[u8])
     requires { ⌜ (fileLength (now table) (now turns) ≤ length (now out)) × (fileLength (now table) (now turns) ≤ 65536) ⌝ }
     ensures { λ r. ⌜ now (out .exit) ≡ sets (now (out .entry)) 0 (fileOf x n (now (table .entry)) (now (turns .entry))) ⌝ }

@@ -1,4 +1,3 @@
-use borrow.Author.Needs.{needs}
 use borrow.Author.Tests.{lt-ltb, le-ltb}
 use Rattle.runfile.proofs.checks.limits.Statement.{statement}
 use Rattle.runfile.proofs.checks.limits.Tie as tie

@@ -1,12 +1,11 @@
 use borrow.Author.Needs.{needs}
-use mathlib.Core.Path.{_≡_, refl, _∙_, sym, ap}
-use Prim.Native.Nat.{_+_, _*_}
+use mathlib.Core.Path.{refl, _∙_, sym, ap}
 use native.Mathlib.Omega.{arith}
 use native.Mathlib.Nat.{add-sub-cancel-left, sub-zero}
 use borrow.Author.Tests.{ne-eqb}
 use lib.ListN.{length}
 use Rattle.rules.proofs.Rows.{clear}
-use Rattle.runfile.specs.Reading.{limitRows, agrees}
+use Rattle.runfile.specs.Reading.{turnCount, agrees, numberRows}
 use Rattle.runfile.proofs.Answers.{numbers-refuse, parts-decide}
 use Rattle.runfile.proofs.Limits.{Agreed, within, agreed}
 use Rattle.runfile.proofs.reading.judged.Statement.{statement}
@@ -18,8 +17,8 @@ fitting c =
     let a = c .before .before .before .before .before .before .before .before .before .args in
     let z = a .z in
     let len = length (a .file .now) in
-    agreed len z (within (z .n) (z .q) (z .second) (agrees len z)
-    (clear (limitRows (z .n) (z .q) (z .second) (agrees len z)) refl (sym (ap (λ v. v .refused) (c .before .before .limits .ensures)) ∙ c .if2 .left)) .agreed)
+    let l = clear (numberRows (a .file .now) z) refl (sym (ap (λ v. v .refused) (c .before .before .limits .ensures)) ∙ c .if2 .left) in
+    agreed len z (within (z .n) (z .q) (turnCount z) (agrees len z) l .agreed)
 
 pub judged-spec : {M : Type 1} → statement M
 judged-spec =

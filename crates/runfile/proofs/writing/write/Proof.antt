@@ -1,10 +1,7 @@
 use borrow.Author.Needs.{needs}
-use mathlib.Core.Path.{_≡_, _∙_, sym, ap}
-use mathlib.Core.List.{List}
-use Prim.Native.Nat.{ℕ, _≤_}
+use mathlib.Core.Path.{_∙_, sym, ap}
 use native.Mathlib.Omega.{arith}
 use lib.ListN.{length}
-use Rattle.runfile.proofs.Limits.{Within}
 use Rattle.runfile.proofs.Writes.{Accepted, accepted, refuses, writes}
 use Rattle.runfile.proofs.writing.write.Statement.{statement}
 use Rattle.runfile.proofs.writing.write.Tie as tie
