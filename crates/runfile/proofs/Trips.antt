@@ -3,7 +3,7 @@ use mathlib.Core.Path.{_≡_, refl, _∙_, sym, ap, subst}
 use mathlib.Core.List.{List, _∷_, _++_, append-assoc}
 use Prim.Native.Nat.{ℕ, _+_, _*_, _-_, _%_, _^_, _<_, _≤_}
 use native.Mathlib.Omega.{arith}
-use borrow.Author.Tests.{eqb-true, eq-eqb, le-ltb}
+use borrow.Author.Tests.{eq-eqb, le-ltb}
 use lib.Dec.{eqb}
 use lib.ListN.{length, take, drop, length-append}
 use lib.Seq.{take-at, drop-at, take-add, take-all}
@@ -19,7 +19,7 @@ use Rattle.runfile.specs.Promise.{Holds, WrittenReadsBack, WrittenAs, Re
 use Rattle.runfile.proofs.Answers.{Good, by-answer, reads}
 use Rattle.runfile.proofs.Limits.{agreed-anew, agreeing}
 use Rattle.runfile.proofs.Trailers.{length-part, bytes-part, length-trailer, told, told-again}
-use Rattle.runfile.proofs.Writes.{length-file, Accepted, accepted, write-number, clear-writes}
+use Rattle.runfile.proofs.Writes.{length-file, Accepted, whole-table, clear-writes, taken, len-is, stands}
 
 -- what the writer accepts, read again
 module _ (x n : ℕ) (table turns : List ℕ) (room : ℕ) (h : x < 2 ^ 32) (a : Accepted n table turns room) where
@@ -33,7 +33,7 @@ module _ (x n : ℕ) (table turns : List ℕ) (room : ℕ) (h : x < 2 ^ 32) (a :
   F = fileOf x n table turns
 
   whole : 12 * q ≡ length table
-  whole = omega (arith, eqb-true (length table % 12) 0 (a .limits .agreed))
+  whole = whole-table n table turns room a
 
   trailer-there : trailerAt F ≡ z
   unfolding fileOf
@@ -83,11 +83,11 @@ module _ (x n : ℕ) (table turns : List ℕ) (room : ℕ) (h : x < 2 ^ 32) (a :
 pub written-reads-back : WrittenReadsBack
 unfolding WrittenReadsBack
 written-reads-back x n table turns out answer after h w e =
-    let a = accepted n table turns (length out) (sym (write-number n table turns (length out)) ∙ sym (ap (λ r. r .refused) (w .answered)) ∙ e) in
-    let c = clear-writes x n table turns out answer after (a .rows) w in
     let l : take (answer .len) after ≡ fileOf x n table turns =
-    ap (λ r. take (r .len) after) (c .0) ∙ ap (take (fileLength table turns)) (c .1) ∙ take-at (fileOf x n table turns) (drop (fileLength table turns) out) (fileLength table turns) (length-file x n table turns) in
-    subst (λ f. Holds f x n table turns) (sym l) (holds x n table turns (length out) h a)
+    ap (λ k. take k after) (len-is x n table turns out answer after w e)
+    ∙ ap (take (fileLength table turns)) (stands x n table turns out answer after w e)
+    ∙ take-at (fileOf x n table turns) (drop (fileLength table turns) out) (fileLength table turns) (length-file x n table turns) in
+    subst (λ f. Holds f x n table turns) (sym l) (holds x n table turns (length out) h (taken x n table turns out answer after w e))
 
 -- what the reader accepts, written again
 module _ (f : List ℕ) (h : AllBytes f) (z : Trailer) (y : z ≡ trailerAt f) (g : Good f z) where

@@ -2,19 +2,21 @@
 use mathlib.Core.Path.{_≡_, refl, _∙_, sym, ap}
 use mathlib.Core.Bool.{cond}
 use mathlib.Core.List.{List, _++_}
-use Prim.Native.Nat.{ℕ, _+_, _%_, _≤_}
+use Prim.Native.Nat.{ℕ, _+_, _*_, _%_, _≤_}
 use native.Mathlib.Omega.{arith}
-use borrow.Author.Tests.{eq-eqb, ne-eqb, ltb-false}
+use borrow.Author.Tests.{eqb-true, eqb-false, eq-eqb, ne-eqb, ltb-false}
 use lib.Dec.{eqb}
-use lib.ListN.{length, drop, length-append}
-use lib.Seq.{sets}
+use lib.ListN.{length, drop, length-append, length-drop}
+use lib.Seq.{sets, drop-at}
 use Rattle.rules.specs.declared.Verdict.{Verdict}
 use Rattle.rules.specs.Row.{verdictOf}
+use Rattle.rules.proofs.Facts.{either-way}
 use Rattle.rules.proofs.Rows.{Clear, none-given, silent, chosen, clear, clear-front, clear-back}
 use Rattle.runfile.specs.declared.WriteAnswer.{WriteAnswer}
 use Rattle.runfile.specs.Layout.{records, trailer, fileOf}
 use Rattle.runfile.specs.Reading.{partRows}
 use Rattle.runfile.specs.Writing.{fileLength, lengthRows, roomRows, writeRows, wrote, writeBy, writeOf, outOf, Written}
+use Rattle.runfile.specs.Promise.{OnlyOutput, WritesOnlyOutput}
 use Rattle.runfile.proofs.Buffers.{in-front}
 use Rattle.runfile.proofs.Limits.{Within, within}
 use Rattle.runfile.proofs.Trailers.{length-trailer}
@@ -45,6 +47,10 @@ accepted n table turns room e =
       fits = ltb-false room (fileLength table turns) (clear-back (partRows n table turns) (roomRows table turns room) g .0);
     }
 
+-- an accepted table has whole records
+pub whole-table : (n : ℕ) (table turns : List ℕ) (room : ℕ) → Accepted n table turns room → 12 * records table ≡ length table
+whole-table n table turns room a = omega (arith, eqb-true (length table % 12) 0 (a .limits .agreed))
+
 -- the answer's number and K are those of its rows
 module _ (n : ℕ) (table turns : List ℕ) (room : ℕ) where
   abbrev v : Verdict
@@ -61,6 +67,7 @@ module _ (n : ℕ) (table turns : List ℕ) (room : ℕ) where
   unfolding writeOf
   write-k = chosen (λ r. r .k) v done (wrote (v .refused) (v .k) 0) (λ e. sym (ap (λ w. w .k) (silent (writeRows n table turns room) refl e))) refl
 
+-- what the writer hands back, from the verdict that it found
 module _ (x n : ℕ) (table turns out : List ℕ) (v : Verdict) (e : v ≡ verdictOf (writeRows n table turns (length out))) where
   pub refuses : (v .refused ≡ 0 → ⊥) → Written x n table turns out (wrote (v .refused) (v .k) 0) out
   unfolding writeOf outOf
@@ -87,3 +94,41 @@ unfolding writeOf outOf
 clear-writes x n table turns out answer after c w =
     let e = none-given (writeRows n table turns (length out)) c in
     (w .answered ∙ ap (λ v. writeBy v (fileLength table turns)) e, w .left ∙ ap (λ v. cond (eqb (writeBy v (fileLength table turns) .refused) 0) (fileOf x n table turns ++ drop (fileLength table turns) out) out) e)
+
+module _ (x n : ℕ) (table turns out : List ℕ) (answer : WriteAnswer) (after : List ℕ) (w : Written x n table turns out answer after) where
+  -- an answer that refuses nothing is that of an accepted input, whose file stands in front of the buffer
+  pub taken : answer .refused ≡ 0 → Accepted n table turns (length out)
+  taken e =
+      accepted n table turns (length out) (sym (write-number n table turns (length out)) ∙ sym (ap (λ r. r .refused) (w .answered)) ∙ e)
+
+  pub len-is : answer .refused ≡ 0 → answer .len ≡ fileLength table turns
+  len-is e = ap (λ r. r .len) (clear-writes x n table turns out answer after (taken e .rows) w .0)
+
+  pub stands : answer .refused ≡ 0 → after ≡ fileOf x n table turns ++ drop (fileLength table turns) out
+  stands e = clear-writes x n table turns out answer after (taken e .rows) w .1
+
+  unchanged : (answer .refused ≡ 0 → ⊥) → after ≡ out
+  unfolding outOf
+  unchanged h = w .left ∙ rw (ne-eqb (writeOf n table turns (length out) .refused) 0 (λ e. h (ap (λ r. r .refused) (w .answered) ∙ e)))
+
+  same : length after ≡ length out
+  same =
+      either-way (eqb (answer .refused) 0)
+      (λ t.
+      let e = eqb-true (answer .refused) 0 t in
+      let f = taken e .fits in
+      ap length (stands e) ∙ simp (length-append, length-drop) (omega (arith, length-file x n table turns)))
+      (λ u. ap length (unchanged (eqb-false (answer .refused) 0 u)))
+
+  only-output : OnlyOutput table turns out answer after
+  only-output =
+      record {
+        refused = unchanged;
+        len = λ e. len-is e ∙ (let l = whole-table n table turns (length out) (taken e) in omega arith);
+        rest = λ e. rw (len-is e) (ap (drop (fileLength table turns)) (stands e) ∙ drop-at (fileOf x n table turns) (drop (fileLength table turns) out) (fileLength table turns) (length-file x n table turns));
+        same = same;
+      }
+
+pub writes-only-output : WritesOnlyOutput
+unfolding WritesOnlyOutput
+writes-only-output = only-output

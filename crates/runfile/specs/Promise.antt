@@ -3,7 +3,7 @@ use mathlib.Core.Path.{_≡_}
 use mathlib.Core.Logic.{_↔_}
 use mathlib.Core.Bool.{Bool, true, false}
 use mathlib.Core.List.{List, [], _++_}
-use Prim.Native.Nat.{ℕ, _+_, _-_, _^_, _<_, _≤_}
+use Prim.Native.Nat.{ℕ, _+_, _*_, _-_, _^_, _<_, _≤_}
 use lib.ListN.{length, take, drop}
 use Rattle.octets.specs.Bytes.{AllBytes}
 use Rattle.rules.specs.Refusal.{refusalOf, holdsAt, GivenExactly}
@@ -25,6 +25,18 @@ unfoldable pub WrittenReadsBack : Type 0
 WrittenReadsBack =
     (x n : ℕ) (table turns out : List ℕ) (answer : WriteAnswer) (after : List ℕ) → x < 2 ^ 32
     → Written x n table turns out answer after → answer .refused ≡ 0 → Holds (take (answer .len) after) x n table turns
+
+-- success changes just the first 16 + t + 12q bytes of the buffer, a refusal changes none
+pub record OnlyOutput (table turns out : List ℕ) (answer : WriteAnswer) (after : List ℕ) : Type 0 where
+  pub refused : (answer .refused ≡ 0 → ⊥) → after ≡ out
+  pub len : answer .refused ≡ 0 → answer .len ≡ 16 + length turns + 12 * records table
+  pub rest : answer .refused ≡ 0 → drop (answer .len) after ≡ drop (answer .len) out
+  pub same : length after ≡ length out
+
+unfoldable pub WritesOnlyOutput : Type 0
+WritesOnlyOutput =
+    (x n : ℕ) (table turns out : List ℕ) (answer : WriteAnswer) (after : List ℕ)
+    → Written x n table turns out answer after → OnlyOutput table turns out answer after
 
 -- a file that reads well is, byte for byte, what the writer makes of what was read, given room
 pub record WrittenAs (file out : List ℕ) (answer : WriteAnswer) (after : List ℕ) : Type 0 where

@@ -12,6 +12,7 @@ pub use promises::read_writes_back;
 pub use promises::refused_exactly;
 pub use promises::trailer_points_back;
 pub use promises::writer_is_settled;
+pub use promises::writes_only_output;
 pub use promises::written_reads_back;
 pub use reading::read;
 pub use reading::table;

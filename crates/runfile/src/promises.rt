@@ -1,9 +1,14 @@
 // What is proved of reading and writing together; each function stands for the promise that it ensures.
-ghost use Rattle.runfile.specs.Promise.{WrittenReadsBack, ReadWritesBack, TrailerPointsBack, RefusedExactly, WriterSettled};
+ghost use Rattle.runfile.specs.Promise.{WrittenReadsBack, WritesOnlyOutput, ReadWritesBack, TrailerPointsBack, RefusedExactly, WriterSettled};
 
 // What is read from a written file is what was written.
 pub fn written_reads_back()
     ensures { λ r. ⌜ WrittenReadsBack ⌝ }
+{}
+
+// Success changes just the bytes of the output, a refusal changes none.
+pub fn writes_only_output()
+    ensures { λ r. ⌜ WritesOnlyOutput ⌝ }
 {}
 
 // A file that reads well is, byte for byte, what the writer makes of what was read.
