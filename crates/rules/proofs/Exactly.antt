@@ -10,12 +10,12 @@ use Rattle.rules.specs.Refusal.{Refusal, refusalOf, holdsAt, earlier, ab
 use Rattle.rules.proofs.Facts.{either-way, and-left, and-right, or-none}
 
 -- what a proper table says of its first refusal
-record Head (r : Refusal) (rs : List Refusal) : Type 0 where
-  above : 0 < r .number
-  once : absent (r .number) rs ≡ true
-  rest : proper rs ≡ true
+pub record Head (r : Refusal) (rs : List Refusal) : Type 0 where
+  pub above : 0 < r .number
+  pub once : absent (r .number) rs ≡ true
+  pub rest : proper rs ≡ true
 
-head : (r : Refusal) (rs : List Refusal) → proper (r ∷ rs) ≡ true → Head r rs
+pub head : (r : Refusal) (rs : List Refusal) → proper (r ∷ rs) ≡ true → Head r rs
 head r rs e =
     let a = ltb 0 (r .number) in
     let b = absent (r .number) rs in

@@ -1,8 +1,20 @@
-// What every refusing function shares: rules as lists of tests, and the lowest refusal that holds.
-// It has definitions and their laws alone; its one function stands for the law of numbered refusals.
+// What every refusing function shares: rules as lists of tests, and the lowest refusal that holds, with its K.
+// Beside the verdict it has definitions and their laws alone; its functions stand for the laws of numbered refusals.
 ghost use Rattle.rules.specs.Refusal.{Exact};
+ghost use Rattle.rules.specs.Row.{ExactRows};
+
+// A refusal's number and its K; zeros where nothing is refused.
+pub struct Verdict {
+    pub refused: u32,
+    pub k: usize,
+}
 
 // The lowest number that holds is given, and no refusal where none holds.
 pub fn lowest_is_exact()
     ensures { λ r. ⌜ Exact ⌝ }
+{}
+
+// The same of a table with its K: each number comes with the K that its row names.
+pub fn rows_are_exact()
+    ensures { λ r. ⌜ ExactRows ⌝ }
 {}

@@ -1,0 +1,8 @@
+pub mod First
+pub mod Buffers
+pub mod Limits
+pub mod Trailers
+pub mod Writes
+pub mod Answers
+pub mod Trips
+pub mod Exact

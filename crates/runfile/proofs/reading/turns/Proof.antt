@@ -1,0 +1,20 @@
+use borrow.Author.Needs.{needs}
+use native.Mathlib.Omega.{arith}
+use native.Mathlib.Nat.{add-sub-cancel-left}
+use Rattle.runfile.proofs.Answers.{Inside, inside}
+use Rattle.runfile.proofs.reading.turns.Statement.{statement}
+use Rattle.runfile.proofs.reading.turns.Tie as tie
+
+fit : (c : tie.After-struct-known) → Inside (c .before .before .before .args .file .now) (c .before .read .result)
+fit c = rw (c .before .read .ensures) (inside (c .before .before .before .args .file .now))
+
+pub turns-spec : {M : Type 1} → statement M
+turns-spec =
+    tie.close
+    (tie.spec
+    (λ c κs. search needs)
+    (λ c. omega (arith, fit c .turns))
+    (λ c. search needs)
+    (λ c. search needs)
+    (λ c. omega (arith, fit c .turns))
+    (λ c. simp (c .before .before .read .ensures, add-sub-cancel-left)))

@@ -1,0 +1,5 @@
+pub mod First
+pub mod Layout
+pub mod Reading
+pub mod Writing
+pub mod Promise

@@ -1,0 +1,96 @@
+// The refusals that reader and writer share: 3 to 6 of the numbers, 7 and 8 of the calls and turns.
+ghost use mathlib.Core.Path.{_≡_};
+ghost use lib.ListN.{length};
+ghost use Rattle.rules.specs.Row.{verdictOf};
+ghost use Rattle.runfile.specs.Reading.{badCall, firstCall, firstTurn, limitRows, partRows};
+use crate::layout::field;
+use crate::layout::record_at;
+use rules::Verdict;
+
+fn bad_call(n: u32, s: &[u8]) -> bool
+    requires { ⌜ length (now s) ≡ 12 ⌝ }
+    ensures { λ r. ⌜ r ≡ badCall n (now (s .entry)) ⌝ }
+{
+    let c = record_at(s);
+    let zero = field(s, 3, 1);
+    ((c.station == 0) | (n < c.station))
+        | ((2 < c.kind) | ((zero != 0) | ((c.kind == 0) & ((c.a != 0) | (c.b != 0)))))
+}
+
+// The first bad call, from 1; 0 where all are good. Whole records are looked at.
+fn first_call(n: u32, table: &[u8]) -> usize
+    ensures { λ r. ⌜ r ≡ firstCall n (now (table .entry)) ⌝ }
+{
+    let q = table.len() / 12;
+    let mut call = 0;
+    while call < q {
+        let a = 12 * call;
+        let e = a + 12;
+        if bad_call(n, &table[a..e]) {
+            return call + 1;
+        }
+        call = call + 1;
+    }
+    0
+}
+
+fn wide(b: u8) -> u32
+    ensures { λ r. ⌜ r ≡ b ⌝ }
+{
+    b as u32
+}
+
+// The first bad turn, from 1; 0 where all are good.
+fn first_turn(n: u32, turns: &[u8]) -> usize
+    ensures { λ r. ⌜ r ≡ firstTurn n (now (turns .entry)) ⌝ }
+{
+    let mut turn = 0;
+    while turn < turns.len() {
+        let b = wide(turns[turn]);
+        if (b == 0) | (n < b) {
+            return turn + 1;
+        }
+        turn = turn + 1;
+    }
+    0
+}
+
+// Refusals 3 to 6.
+pub(crate) fn limits(n: u32, q: usize, t: usize, agree: bool) -> Verdict
+    ensures { λ r. ⌜ r ≡ verdictOf (limitRows n q t agree) ⌝ }
+{
+    if (n == 0) | (32 < n) {
+        return Verdict { refused: 3, k: 0 };
+    }
+    if 1024 < q {
+        return Verdict { refused: 4, k: 0 };
+    }
+    if 40960 < t {
+        return Verdict { refused: 5, k: 0 };
+    }
+    if !agree {
+        return Verdict { refused: 6, k: 0 };
+    }
+    Verdict { refused: 0, k: 0 }
+}
+
+// Refusals 7 and 8.
+pub(crate) fn parts(n: u32, table: &[u8], turns: &[u8]) -> Verdict
+    ensures { λ r. ⌜ r ≡ verdictOf (partRows n (now (table .entry)) (now (turns .entry))) ⌝ }
+{
+    let call = first_call(n, table);
+    if 0 < call {
+        return Verdict {
+            refused: 7,
+            k: call,
+        };
+    }
+    let turn = first_turn(n, turns);
+    if 0 < turn {
+        return Verdict {
+            refused: 8,
+            k: turn,
+        };
+    }
+    Verdict { refused: 0, k: 0 }
+}
