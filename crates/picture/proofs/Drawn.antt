@@ -1,38 +1,20 @@
 -- Words drawn one after the other into a buffer. Assumes nothing.
 use mathlib.Core.Path.{_≡_, refl, _∙_, sym, ap}
 use mathlib.Core.List.{List, [], _∷_, _++_, append-assoc, append-nil}
-use Prim.Native.Nat.{ℕ, zero, suc, _+_, _*_, _-_, _≤_}
-use native.Mathlib.Nat.{zero-add, add-zero, add-suc, suc-add}
+use Prim.Native.Nat.{ℕ, zero, suc, _+_, _*_, _≤_}
 use native.Mathlib.Numerals.{add-one}
 use native.Mathlib.Omega.{arith}
-use lib.ListN.{getD, length, set, take, drop, length-append}
-use lib.Seq.{sets, sets-eq, drop-drop}
-use borrow.Rule.Slice.PartMut.{midOf, putMid, mid-len}
+use lib.ListN.{getD, length, drop, length-append}
+use lib.Seq.{sets}
 use Rattle.card.specs.declared.Halves.{Halves}
 use Rattle.card.specs.Register.{halves}
 use Rattle.card.specs.Word.{revisionA, wordOf, claimWord}
 use Rattle.bench.specs.declared.Bench.{Bench}
 use Rattle.octets.specs.Bytes.{bytes}
+use Rattle.octets.proofs.Buffers
+use Rattle.octets.proofs.Buffers.{sets-append}
 use Rattle.octets.proofs.Bytes.{length-bytes}
 use Rattle.picture.specs.Picture.{entryWords, registers, inBytes, pictureSize}
-
--- one text after another
-pub sets-append : {X : Type 0} (l : List X) (i : ℕ) (xs ys : List X) → sets (sets l i xs) (i + length xs) ys ≡ sets l i (xs ++ ys)
-sets-append l i [] ys = ap (λ k. sets l k ys) (add-zero i)
-sets-append l i (x ∷ xs) ys =
-    ap (λ k. sets (sets (set l i x) (suc i) xs) k ys) (add-suc i (length xs) ∙ sym (suc-add i (length xs))) ∙ sets-append (set l i x) (suc i) xs ys
-
--- the k bytes of a number, stored into a part of k places from i on
-pub part-stored : (l xs : List ℕ) (i k x : ℕ) → i + k ≤ length l → xs ≡ bytes (length (midOf i (i + k - i) l)) x → putMid i (i + k - i) l xs ≡ sets l i (bytes k x)
-part-stored l xs i k x h e =
-    let b = bytes k x in
-    let d : i + k - i ≡ k = omega arith in
-    let n : length (midOf i (i + k - i) l) ≡ k = mid-len i (i + k) l h ∙ d in
-    let q : xs ≡ b = e ∙ ap (λ m. bytes m x) n in
-    ap (λ m. putMid i m l xs) d ∙ ap (putMid i k l) q
-    ∙ ap (λ z. take i l ++ (b ++ z)) (drop-drop k i l ∙ ap (λ m. drop (i + m) l) (sym (length-bytes k x)))
-    ∙ sym (append-assoc (take i l) b (drop (i + length b) l))
-    ∙ sym (sets-eq b l i (rw length-bytes h))
 
 pub length-inBytes : (xs : List ℕ) → length (inBytes xs) ≡ 8 * length xs
 unfolding inBytes
@@ -53,7 +35,7 @@ length-entryWords l (suc k) = length-append (entryWords l k) (wordOf (getD l (su
 pub more : (out : List ℕ) (i j : ℕ) (xs ys : List ℕ) → j ≡ i + 8 * length xs → sets (sets out i (inBytes xs)) j (inBytes ys) ≡ sets out i (inBytes (xs ++ ys))
 more out i j xs ys e =
     ap (λ k. sets (sets out i (inBytes xs)) k (inBytes ys)) (e ∙ ap (λ k. i + k) (sym (length-inBytes xs)))
-    ∙ sets-append out i (inBytes xs) (inBytes ys) ∙ ap (sets out i) (sym (inBytes-append xs ys))
+    ∙ sets-append (inBytes xs) (inBytes ys) out i ∙ ap (sets out i) (sym (inBytes-append xs ys))
 
 one-word : (x : ℕ) → inBytes (x ∷ []) ≡ bytes 8 x
 unfolding inBytes
@@ -92,7 +74,4 @@ size-drawn w =
 
 -- where there is room, the words stand in front of the rest
 pub in-front : (w : Bench) (out : List ℕ) → pictureSize w ≤ length out → sets out 0 (inBytes (registers w)) ≡ inBytes (registers w) ++ drop (pictureSize w) out
-in-front w out h =
-    let t = inBytes (registers w) in
-    let e : 0 + length t ≡ pictureSize w = zero-add (length t) ∙ size-drawn w in
-    sets-eq t out 0 (omega arith) ∙ ap (λ k. t ++ drop k out) e
+in-front w out h = Buffers.in-front out (inBytes (registers w)) (pictureSize w) (size-drawn w) h

@@ -1,5 +1,4 @@
 pub mod First
-pub mod Buffers
 pub mod Limits
 pub mod Trailers
 pub mod Writes

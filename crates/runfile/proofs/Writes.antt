@@ -17,7 +17,7 @@ use Rattle.runfile.specs.Layout.{records, trailer, fileOf}
 use Rattle.runfile.specs.Reading.{partRows}
 use Rattle.runfile.specs.Writing.{fileLength, lengthRows, roomRows, writeRows, wrote, writeBy, writeOf, outOf, Written}
 use Rattle.runfile.specs.Promise.{OnlyOutput, WritesOnlyOutput}
-use Rattle.runfile.proofs.Buffers.{in-front}
+use Rattle.octets.proofs.Buffers.{in-front}
 use Rattle.runfile.proofs.Limits.{Within, within}
 use Rattle.runfile.proofs.Trailers.{length-trailer}
 

@@ -1,5 +1,5 @@
 use borrow.Author.Needs.{needs}
-use Rattle.picture.proofs.Drawn.{part-stored}
+use Rattle.octets.proofs.Buffers.{part-stored}
 use Rattle.picture.proofs.put_word.Statement.{statement}
 use Rattle.picture.proofs.put_word.Tie as tie
 

@@ -6,7 +6,7 @@ use native.Mathlib.Omega.{arith}
 use native.Mathlib.Nat.{add-zero}
 use lib.ListN.{length, drop, length-set}
 use lib.Seq.{sets}
-use Rattle.runfile.proofs.Buffers.{lay-one, all-laid}
+use Rattle.octets.proofs.Buffers.{lay-one, all-laid}
 use Rattle.runfile.proofs.writing.lay.Statement.{statement}
 use Rattle.runfile.proofs.writing.lay.Tie as tie
 

@@ -4,7 +4,7 @@ use Prim.Native.Nat.{_+_}
 use native.Mathlib.Nat.{zero-add}
 use lib.ListN.{length}
 use Rattle.runfile.specs.Layout.{records, trailer, trailerBytes, fileOf}
-use Rattle.runfile.proofs.Buffers.{laid, next}
+use Rattle.octets.proofs.Buffers.{laid, next}
 use Rattle.runfile.proofs.Trailers.{length-trailer}
 use Rattle.runfile.proofs.writing.put_file.Statement.{statement}
 use Rattle.runfile.proofs.writing.put_file.Tie as tie

@@ -3,7 +3,7 @@ use mathlib.Core.Path.{refl}
 use Rattle.octets.specs.Bytes.{bytes}
 use Rattle.octets.proofs.Bytes.{length-bytes}
 use Rattle.runfile.specs.Layout.{trailerBytes}
-use Rattle.runfile.proofs.Buffers.{laid, next}
+use Rattle.octets.proofs.Buffers.{laid, next}
 use Rattle.runfile.proofs.writing.put_trailer.Statement.{statement}
 use Rattle.runfile.proofs.writing.put_trailer.Tie as tie
 
