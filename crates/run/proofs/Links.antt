@@ -1,0 +1,70 @@
+-- Whose next call is which, from the table's end down. Assumes nothing.
+use mathlib.Core.Path.{_≡_, refl, _∙_, sym, ap}
+use mathlib.Core.Bool.{Bool, true, false, cond}
+use mathlib.Core.List.{List}
+use Prim.Native.Nat.{ℕ, zero, suc, _-_, _<_, _≤_}
+use native.Mathlib.Omega.{arith}
+use native.Mathlib.Decide.{ℕ-discrete}
+use borrow.Author.Tests.{eq-eqb, ne-eqb}
+use lib.Dec.{eqb}
+use lib.ListN.{length, getD, set, replicate, getD-replicate}
+use lib.Seq.{getD-set-same, getD-set-other}
+use Rattle.runfile.specs.First.{firstFrom}
+use Rattle.runfile.specs.Layout.{records, callOf}
+use Rattle.run.specs.Calls.{madeBy, callAfter, Linked}
+
+-- no call stands after the last
+pub none-after : (table : List ℕ) (i c : ℕ) → records table ≤ c → callAfter table i c ≡ 0
+unfolding callAfter firstFrom
+none-after table i c h =
+    let e : records table - c ≡ 0 = omega arith in
+    rw e
+
+-- before call c + 1: that call, if it is the station's, or else the first after it
+pub one-before : (table : List ℕ) (i c : ℕ) → c < records table
+    → callAfter table i c ≡ cond (eqb (callOf table (suc c) .station) i) (suc c) (callAfter table i (suc c))
+unfolding callAfter firstFrom
+one-before table i c h =
+    let e : records table - c ≡ suc (records table - suc c) = omega arith in
+    rw e
+
+module _ (table next head : List ℕ) (c : ℕ) (h : c < records table) (n : records table < length next) (l : 33 ≡ length head) where
+  abbrev owner : ℕ
+  owner = callOf table (suc c) .station
+
+  -- one call more, from the end
+  pub link-more : owner < 33 → Linked table next head (suc c) → Linked table (set next (suc c) (getD head owner 0)) (set head owner (suc c)) c
+  link-more o k =
+      record {
+        first =
+            λ i g.
+            elim (ℕ-discrete i owner) [
+              | yes e ↦ ap (λ j. getD (set head owner (suc c)) j 0) e ∙ getD-set-same head owner (suc c) 0 (omega arith)
+                  ∙ sym (one-before table i c h ∙ rw (eq-eqb owner i (sym e)))
+              | no d ↦ getD-set-other head owner i (suc c) 0 d ∙ k .first i g
+                  ∙ sym (one-before table i c h ∙ rw (ne-eqb owner i (λ e. d (sym e))))
+            ];
+        after =
+            λ d g m.
+            elim (ℕ-discrete d (suc c)) [
+              | yes e ↦ rw e (getD-set-same next (suc c) (getD head owner 0) 0 (omega arith) ∙ k .first owner o)
+              | no q ↦ getD-set-other next (suc c) d (getD head owner 0) 0 q ∙ k .after d (omega arith) m
+            ];
+      }
+
+-- nothing linked yet
+pub unlinked : (table next : List ℕ) → Linked table next (replicate 33 0) (records table)
+unlinked table next =
+    record {
+      first = λ i g. getD-replicate 33 i 0 0 g ∙ sym (none-after table i (records table) (omega arith));
+      after = λ d g m. absurd (omega arith);
+    }
+
+-- the same, as the loop counts down
+pub link-down : (table next head : List ℕ) (c : ℕ) → 0 < c → c ≤ records table → records table < length next → length head ≡ 33
+    → callOf table c .station < 33 → Linked table next head c
+    → Linked table (set next c (getD head (callOf table c .station) 0)) (set head (callOf table c .station) c) (c - 1)
+link-down table next head zero p h n l o k = absurd (omega arith)
+link-down table next head (suc c) p h n l o k =
+    let e : suc c - 1 ≡ c = omega arith in
+    rw e (link-more table next head c h n (sym l) o k)

@@ -1,0 +1,99 @@
+-- The book that is kept of a run, by stations and by calls: document 01, "Order of effect" and "Report". Assumes nothing.
+use mathlib.Core.List.{List, [], _∷_}
+use Rattle.run.specs.Rows.{enterCall}
+use Prim.Native.Nat.{ℕ, _+_}
+use lib.ListN.{getD, set}
+
+-- by station: its next call and its latest one. By call: own turns so far, 0 till it begins; 0 till it ends and then its answer plus 1; the turn of its point, 0 till it has one.
+-- The list has the calls that have a point, in order of effect
+pub record Book : Type 0 where
+  pub upcoming : List ℕ
+  pub latest : List ℕ
+  pub own : List ℕ
+  pub told : List ℕ
+  pub point : List ℕ
+  pub list : List ℕ
+  pub idle : ℕ
+  pub begun : ℕ
+  pub ended : ℕ
+
+-- the station begins call c, and has call d next
+abbrev pub begins : ℕ → ℕ → ℕ → Book → Book
+begins i c d b =
+    record {
+      upcoming = set (b .upcoming) i d;
+      latest = set (b .latest) i c;
+      own = b .own;
+      told = b .told;
+      point = b .point;
+      list = b .list;
+      idle = b .idle;
+      begun = b .begun + 1;
+      ended = b .ended;
+    }
+
+-- call c has had so many own turns
+abbrev pub does : ℕ → ℕ → Book → Book
+does c turns b =
+    record {
+      upcoming = b .upcoming;
+      latest = b .latest;
+      own = set (b .own) c turns;
+      told = b .told;
+      point = b .point;
+      list = b .list;
+      idle = b .idle;
+      begun = b .begun;
+      ended = b .ended;
+    }
+
+-- the latest call of station j has its point in this turn, if it has none yet
+abbrev pub enters : ℕ → ℕ → Book → Book
+enters turn j b =
+    let r = enterCall turn (getD (b .latest) j 0) (record { point = b .point; list = b .list }) in
+    record {
+      upcoming = b .upcoming;
+      latest = b .latest;
+      own = b .own;
+      told = b .told;
+      point = r .point;
+      list = r .list;
+      idle = b .idle;
+      begun = b .begun;
+      ended = b .ended;
+    }
+
+-- one after the other
+unfoldable pub allEnter : ℕ → List ℕ → Book → Book
+allEnter turn [] b = b
+allEnter turn (j ∷ js) b = allEnter turn js (enters turn j b)
+
+-- call c ends with its answer
+abbrev pub ends : ℕ → ℕ → Book → Book
+ends c result b =
+    record {
+      upcoming = b .upcoming;
+      latest = b .latest;
+      own = b .own;
+      told = set (b .told) c (result + 1);
+      point = b .point;
+      list = b .list;
+      idle = b .idle;
+      begun = b .begun;
+      ended = b .ended + 1;
+    }
+
+-- a turn passes with nothing to do
+abbrev pub idles : Book → Book
+idles b =
+    record {
+      upcoming = b .upcoming;
+      latest = b .latest;
+      own = b .own;
+      told = b .told;
+      point = b .point;
+      list = b .list;
+      idle = b .idle + 1;
+      begun = b .begun;
+      ended = b .ended;
+    }

@@ -1,0 +1,46 @@
+-- Document 01, "Run file": a station makes its calls in table order, and a turn of a station with no call left is offered none. Calls go by their numbers in the table, from 1.
+-- Assumes nothing.
+use mathlib.Core.Path.{_≡_}
+use mathlib.Core.Bool.{Bool, cond}
+use mathlib.Core.List.{List}
+use Prim.Native.Nat.{ℕ, suc, _-_, _<_, _≤_}
+use lib.Dec.{eqb}
+use lib.ListN.{getD}
+use Rattle.method.specs.declared.Place.{Place}
+use Rattle.method.specs.declared.Call.{Call}
+use Rattle.method.specs.Record.{num, call}
+use Rattle.bench.specs.Promise.{Turn}
+use Rattle.runfile.specs.First.{firstFrom}
+use Rattle.runfile.specs.Layout.{records, callOf}
+
+-- whether the call at an index from 0 is station i's
+abbrev pub madeBy : List ℕ → ℕ → ℕ → Bool
+madeBy table i k = eqb (callOf table (suc k) .station) i
+
+-- station i's first call after call c; 0 where it has none
+unfoldable pub callAfter : List ℕ → ℕ → ℕ → ℕ
+callAfter table i c = firstFrom (madeBy table i) c (records table - c)
+
+-- the call c on offer, or none where c is 0
+abbrev pub offer : List ℕ → ℕ → Call
+offer table c = call (cond (eqb c 0) 3 (callOf table c .kind)) (callOf table c .a) (callOf table c .b)
+
+abbrev pub offering : List ℕ → ℕ → ℕ → Turn
+offering table i c = record { station = i; kind = offer table c .kind; a = offer table c .a; b = offer table c .b }
+
+-- what is on offer in a turn of a station that stands at place p: its next call, and none while it is in one
+abbrev pub onOffer : Place → ℕ → ℕ
+onOffer p upcoming = cond (eqb (num p) 0) upcoming 0
+
+-- the call that the turn is for: the one on offer, or the one that the station is in
+abbrev pub callFor : Place → ℕ → ℕ → ℕ
+callFor p upcoming latest = cond (eqb (num p) 0) upcoming latest
+
+-- every call's station is one of 0 to 32
+abbrev pub StationsWithin : List ℕ → Type 0
+StationsWithin table = (c : ℕ) → callOf table c .station < 33
+
+-- from the table's end down to call c: each station's first call after c, and the next one of each call after c
+pub record Linked (table next head : List ℕ) (c : ℕ) : Type 0 where
+  pub first : (i : ℕ) → i < 33 → getD head i 0 ≡ callAfter table i c
+  pub after : (d : ℕ) → c < d → d ≤ records table → getD next d 0 ≡ callAfter table (callOf table d .station) d

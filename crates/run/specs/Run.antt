@@ -1,0 +1,76 @@
+-- A run: the step table folded over the turns of a file, with the book that is kept of it. Assumes nothing.
+use mathlib.Core.Bool.{cond}
+use mathlib.Core.List.{List, [], _∷_, _++_}
+use Prim.Native.Nat.{ℕ, zero, suc, _+_}
+use lib.Dec.{eqb}
+use lib.ListN.{getD, replicate}
+use Rattle.method.specs.declared.Place.{Place}
+use Rattle.method.specs.declared.Answer.{Answer}
+use Rattle.method.specs.declared.Answer.the-variants.{Idle, Going, Ended, Refused}
+use Rattle.method.specs.Record.{num}
+use Rattle.method.specs.Effect.{oneWord, points}
+use Rattle.bench.specs.declared.Bench.{Bench}
+use Rattle.bench.specs.Record.{stationAt}
+use Rattle.bench.specs.Turn.{freshOf}
+use Rattle.bench.specs.Promise.{turnBy}
+use Rattle.run.specs.Calls.{callAfter, offering, onOffer, callFor}
+use Rattle.run.specs.Book.{Book, begins, does, allEnter, ends, idles}
+
+pub record Run : Type 0 where
+  pub bench : Bench
+  pub turns : ℕ
+  pub book : Book
+
+-- the first calls of stations 0 to k - 1
+unfoldable pub firstCalls : List ℕ → ℕ → List ℕ
+firstCalls table zero = []
+firstCalls table (suc k) = firstCalls table k ++ (callAfter table k 0 ∷ [])
+
+abbrev pub emptyBook : List ℕ → Book
+emptyBook table =
+    record {
+      upcoming = firstCalls table 33;
+      latest = replicate 33 0;
+      own = replicate 1025 0;
+      told = replicate 1025 0;
+      point = replicate 1025 0;
+      list = [];
+      idle = 0;
+      begun = 0;
+      ended = 0;
+    }
+
+-- an operation for call c of station i, which stood at place p, makes so many own turns; at rest it begins the call
+abbrev pub acts : List ℕ → Place → ℕ → ℕ → ℕ → Book → Book
+acts table p i c own b = does c own (cond (eqb (num p) 0) (begins i c (callAfter table i c) b) b)
+
+-- the book after a turn of station i for call c: its answer, the bench before it, the own turns that a call which goes on has had, and the turn's number
+unfoldable pub noted : List ℕ → Bench → ℕ → ℕ → ℕ → ℕ → Answer → Book → Book
+noted table w turn i c own Idle b = idles b
+noted table w turn i c own Going b =
+    let t = stationAt w i in
+    allEnter turn (points oneWord (stationAt w) (w .n) i (t .place) (w .v) t Going) (acts table (t .place) i c own b)
+noted table w turn i c own (Ended result took) b =
+    let t = stationAt w i in
+    ends c result (allEnter turn (points oneWord (stationAt w) (w .n) i (t .place) (w .v) t (Ended result took)) (acts table (t .place) i c took b))
+noted table w turn i c own (Refused number) b = b
+
+-- one turn of station i: the station is offered its next call. Turns are numbered from 1
+abbrev pub stepRun : List ℕ → Run → ℕ → Run
+stepRun table s i =
+    let p = stationAt (s .bench) i .place in
+    let d = getD (s .book .upcoming) i 0 in
+    let x = turnBy (s .bench) (offering table i (onOffer p d)) in
+    record {
+      bench = x .bench;
+      turns = s .turns + 1;
+      book = noted table (s .bench) (s .turns + 1) i (callFor p d (getD (s .book .latest) i 0)) (stationAt (x .bench) i .own) (x .answer) (s .book);
+    }
+
+unfoldable pub runFrom : List ℕ → Run → List ℕ → Run
+runFrom table s [] = s
+runFrom table s (i ∷ is) = runFrom table (stepRun table s i) is
+
+-- from a fresh bench
+abbrev pub runOf : ℕ → ℕ → List ℕ → List ℕ → Run
+runOf x n table turns = runFrom table (record { bench = freshOf x n .bench; turns = 0; book = emptyBook table }) turns
