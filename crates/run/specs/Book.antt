@@ -1,8 +1,12 @@
 -- The book that is kept of a run, by stations and by calls: document 01, "Order of effect" and "Report". Assumes nothing.
+use mathlib.Core.Path.{_≡_}
+use mathlib.Core.Bool.{Bool, cond}
 use mathlib.Core.List.{List, [], _∷_}
 use Rattle.run.specs.Rows.{enterCall}
-use Prim.Native.Nat.{ℕ, _+_}
-use lib.ListN.{getD, set}
+use Prim.Native.Nat.{ℕ, _+_, _<_}
+use Rattle.run.specs.declared.Tally.{Tally}
+use Rattle.run.specs.declared.Errand.{Errand}
+use lib.ListN.{length, getD, set, take}
 
 -- by station: its next call and its latest one. By call: own turns so far, 0 till it begins; 0 till it ends and then its answer plus 1; the turn of its point, 0 till it has one.
 -- The list has the calls that have a point, in order of effect
@@ -46,6 +50,10 @@ does c turns b =
       begun = b .begun;
       ended = b .ended;
     }
+
+-- an operation for call c of station i makes so many own turns; a station at rest begins the call with it, and has call d next
+abbrev pub acts : Bool → ℕ → ℕ → ℕ → ℕ → Book → Book
+acts rests i c d turns b = does c turns (cond rests (begins i c d b) b)
 
 -- the latest call of station j has its point in this turn, if it has none yet
 abbrev pub enters : ℕ → ℕ → Book → Book
@@ -97,3 +105,34 @@ idles b =
       begun = b .begun;
       ended = b .ended;
     }
+
+-- the book in rows of numbers, with its counts
+abbrev pub bookOf : List ℕ → List ℕ → List ℕ → List ℕ → List ℕ → List ℕ → Tally → Book
+bookOf upcoming latest own told point list s =
+    record {
+      upcoming = upcoming;
+      latest = latest;
+      own = own;
+      told = told;
+      point = point;
+      list = take (s .listed) list;
+      idle = s .idle;
+      begun = s .begun;
+      ended = s .ended;
+    }
+
+-- the errand's station and call have their places in the rows
+pub record Holds (e : Errand) (next head latest own : List ℕ) : Type 0 where
+  pub station : e .station < 33
+  pub call : e .call < 1025
+  pub nexts : length next ≡ 1025
+  pub heads : length head ≡ 33
+  pub latests : length latest ≡ 33
+  pub owns : length own ≡ 1025
+
+-- the rows after an operation of the errand's call, whatever the other rows are
+unfoldable pub Acted : Errand → Tally → Tally → ℕ → List ℕ → List ℕ → List ℕ → List ℕ → List ℕ → List ℕ → List ℕ → Type 0
+Acted e s r turns next head latest own head′ latest′ own′ =
+    (told point list : List ℕ)
+    → bookOf head′ latest′ own′ told point list r
+    ≡ acts (e .rests) (e .station) (e .call) (getD next (e .call) 0) turns (bookOf head latest own told point list s)

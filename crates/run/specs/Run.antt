@@ -4,7 +4,6 @@ use mathlib.Core.List.{List, [], _∷_, _++_}
 use Prim.Native.Nat.{ℕ, zero, suc, _+_}
 use lib.Dec.{eqb}
 use lib.ListN.{getD, replicate}
-use Rattle.method.specs.declared.Place.{Place}
 use Rattle.method.specs.declared.Answer.{Answer}
 use Rattle.method.specs.declared.Answer.the-variants.{Idle, Going, Ended, Refused}
 use Rattle.method.specs.Record.{num}
@@ -14,7 +13,7 @@ use Rattle.bench.specs.Record.{stationAt}
 use Rattle.bench.specs.Turn.{freshOf}
 use Rattle.bench.specs.Promise.{turnBy}
 use Rattle.run.specs.Calls.{callAfter, offering, onOffer, callFor}
-use Rattle.run.specs.Book.{Book, begins, does, allEnter, ends, idles}
+use Rattle.run.specs.Book.{Book, acts, allEnter, ends, idles}
 
 pub record Run : Type 0 where
   pub bench : Bench
@@ -40,19 +39,15 @@ emptyBook table =
       ended = 0;
     }
 
--- an operation for call c of station i, which stood at place p, makes so many own turns; at rest it begins the call
-abbrev pub acts : List ℕ → Place → ℕ → ℕ → ℕ → Book → Book
-acts table p i c own b = does c own (cond (eqb (num p) 0) (begins i c (callAfter table i c) b) b)
-
 -- the book after a turn of station i for call c: its answer, the bench before it, the own turns that a call which goes on has had, and the turn's number
 unfoldable pub noted : List ℕ → Bench → ℕ → ℕ → ℕ → ℕ → Answer → Book → Book
 noted table w turn i c own Idle b = idles b
 noted table w turn i c own Going b =
     let t = stationAt w i in
-    allEnter turn (points oneWord (stationAt w) (w .n) i (t .place) (w .v) t Going) (acts table (t .place) i c own b)
+    allEnter turn (points oneWord (stationAt w) (w .n) i (t .place) (w .v) t Going) (acts (eqb (num (t .place)) 0) i c (callAfter table i c) own b)
 noted table w turn i c own (Ended result took) b =
     let t = stationAt w i in
-    ends c result (allEnter turn (points oneWord (stationAt w) (w .n) i (t .place) (w .v) t (Ended result took)) (acts table (t .place) i c took b))
+    ends c result (allEnter turn (points oneWord (stationAt w) (w .n) i (t .place) (w .v) t (Ended result took)) (acts (eqb (num (t .place)) 0) i c (callAfter table i c) took b))
 noted table w turn i c own (Refused number) b = b
 
 -- one turn of station i: the station is offered its next call. Turns are numbered from 1

@@ -3,7 +3,10 @@ ghost use mathlib.Core.Path.{_≡_};
 ghost use mathlib.Core.List.{_∷_};
 ghost use Prim.Native.Nat.{_<_, _≤_};
 ghost use lib.ListN.{length};
+ghost use Rattle.run.specs.Book.{Holds, Acted};
 ghost use Rattle.run.specs.Rows.{rows, enterCall, allEnterCalls, callsOf, waiters, CallsWithin, Fits};
+use crate::Errand;
+use crate::Tally;
 use card::Claim;
 
 // Call c has its point in this turn, if it is one and has none yet; hands back how many are listed.
@@ -53,4 +56,35 @@ pub(crate) fn raise(
         }
     }
     k
+}
+
+// An operation for the errand's call makes so many own turns; a station at rest begins the call with it.
+fn acted(
+    s: Tally,
+    e: Errand,
+    turns: u32,
+    next: &[u32],
+    head: &mut [u32],
+    latest: &mut [u32],
+    own: &mut [u32],
+) -> Tally
+    requires { ⌜ Holds e (now next) (now head) (now latest) (now own) × (s .begun < 65536) ⌝ }
+    ensures { λ r. ⌜ Acted e s r turns (now (next .entry)) (now (head .entry)) (now (latest .entry)) (now (own .entry)) (now (head .exit)) (now (latest .exit)) (now (own .exit)) ⌝ }
+{
+    let at = e.station as usize;
+    let call = e.call;
+    let c = call as usize;
+    let rests = e.rests;
+    own[c] = turns;
+    if rests {
+        head[at] = next[c];
+        latest[at] = call;
+        return Tally {
+            idle: s.idle,
+            begun: s.begun + 1,
+            ended: s.ended,
+            listed: s.listed,
+        };
+    }
+    s
 }

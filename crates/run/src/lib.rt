@@ -2,3 +2,19 @@
 // Its modules: calls (which call is whose next), book (what is kept by stations and by calls).
 mod book;
 mod calls;
+
+// The counts of a run so far: idle turns, calls begun, calls ended, calls listed.
+pub struct Tally {
+    pub idle: u32,
+    pub begun: u32,
+    pub ended: u32,
+    pub listed: u32,
+}
+
+// What a turn is for: its number, its station, the call, and whether the station was at rest.
+pub(crate) struct Errand {
+    pub turn: u32,
+    pub station: u32,
+    pub call: u32,
+    pub rests: bool,
+}
