@@ -10,7 +10,7 @@ use borrow.Author.Tests.{eq-eqb, ne-eqb}
 use lib.Dec.{eqb}
 use lib.ListN.{length, getD, set, take, length-set}
 use lib.Seq.{take-suc-set}
-use Rattle.run.specs.Rows.{Rows, rows, enterCall, allEnterCalls, callsOf, waiters, pointed, Fits}
+use Rattle.run.specs.Rows.{Rows, rows, enterCall, allEnterCalls, callsOf, waiters, pointed, CallsWithin, Fits}
 use Rattle.rules.proofs.Facts.{either-way}
 
 -- where a call has no point there is room for another
@@ -102,3 +102,11 @@ pub winner-first : (latest wait : List ℕ) (pid seq turn n : ℕ) (b : Rows)
     → raised latest wait pid seq turn (enterCall turn (getD latest pid 0) b) n ≡ allEnterCalls turn (callsOf latest (pid ∷ waiters wait pid seq n)) b
 unfolding allEnterCalls callsOf
 winner-first latest wait pid seq turn n b = refl
+
+-- a call's number put into a row of such
+pub within-set : (latest : List ℕ) (i c : ℕ) → c < 1025 → CallsWithin latest → CallsWithin (set latest i c)
+within-set [] i c h k j = k j
+within-set (x ∷ l) zero c h k zero = h
+within-set (x ∷ l) zero c h k (suc j) = k (suc j)
+within-set (x ∷ l) (suc i) c h k zero = k zero
+within-set (x ∷ l) (suc i) c h k (suc j) = within-set l i c h (λ m. k (suc m)) j

@@ -2,10 +2,11 @@
 use mathlib.Core.Path.{_≡_}
 use mathlib.Core.Bool.{Bool, cond}
 use mathlib.Core.List.{List, [], _∷_}
-use Rattle.run.specs.Rows.{enterCall}
+use Rattle.run.specs.Rows.{enterCall, waiters}
 use Prim.Native.Nat.{ℕ, _+_, _<_}
 use Rattle.run.specs.declared.Tally.{Tally}
 use Rattle.run.specs.declared.Errand.{Errand}
+use Rattle.run.specs.declared.Went.{Went}
 use lib.ListN.{length, getD, set, take}
 
 -- by station: its next call and its latest one. By call: own turns so far, 0 till it begins; 0 till it ends and then its answer plus 1; the turn of its point, 0 till it has one.
@@ -136,3 +137,14 @@ Acted e s r turns next head latest own head′ latest′ own′ =
     (told point list : List ℕ)
     → bookOf head′ latest′ own′ told point list r
     ≡ acts (e .rests) (e .station) (e .call) (getD next (e .call) 0) turns (bookOf head latest own told point list s)
+
+-- the stations whose calls have their point where V.seq was raised
+abbrev pub raisers : Went → List ℕ → List ℕ
+raisers w wait = cond (w .raises) (w .saw .pid ∷ waiters wait (w .saw .pid) (w .saw .seq) (w .n)) []
+
+-- the rows after an operation that did not end the errand's call, whatever has been told
+unfoldable pub Gone : Errand → Went → Tally → Tally → List ℕ → List ℕ → List ℕ → List ℕ → List ℕ → List ℕ → List ℕ → List ℕ → List ℕ → List ℕ → List ℕ → List ℕ → Type 0
+Gone e w s r next head latest wait own point list head′ latest′ own′ point′ list′ =
+    (told : List ℕ)
+    → bookOf head′ latest′ own′ told point′ list′ r
+    ≡ allEnter (e .turn) (raisers w wait) (acts (e .rests) (e .station) (e .call) (getD next (e .call) 0) (w .own) (bookOf head latest own told point list s))

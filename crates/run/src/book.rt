@@ -2,11 +2,12 @@
 ghost use mathlib.Core.Path.{_≡_};
 ghost use mathlib.Core.List.{_∷_};
 ghost use Prim.Native.Nat.{_<_, _≤_};
-ghost use lib.ListN.{length};
-ghost use Rattle.run.specs.Book.{Holds, Acted};
+ghost use lib.ListN.{length, set};
+ghost use Rattle.run.specs.Book.{Holds, Acted, raisers, Gone};
 ghost use Rattle.run.specs.Rows.{rows, enterCall, allEnterCalls, callsOf, waiters, CallsWithin, Fits};
 use crate::Errand;
 use crate::Tally;
+use crate::Went;
 use card::Claim;
 
 // Call c has its point in this turn, if it is one and has none yet; hands back how many are listed.
@@ -68,8 +69,9 @@ fn acted(
     latest: &mut [u32],
     own: &mut [u32],
 ) -> Tally
-    requires { ⌜ Holds e (now next) (now head) (now latest) (now own) × (s .begun < 65536) ⌝ }
+    requires { ⌜ Holds e (now next) (now head) (now latest) (now own) × (CallsWithin (now latest) × (s .begun < 65536)) ⌝ }
     ensures { λ r. ⌜ Acted e s r turns (now (next .entry)) (now (head .entry)) (now (latest .entry)) (now (own .entry)) (now (head .exit)) (now (latest .exit)) (now (own .exit)) ⌝ }
+    ensures { λ r. ⌜ (length (now (latest .exit)) ≡ 33) × (CallsWithin (now (latest .exit)) × (r .listed ≡ s .listed)) ⌝ }
 {
     let at = e.station as usize;
     let call = e.call;
@@ -87,4 +89,60 @@ fn acted(
         };
     }
     s
+}
+
+// The calls that have their point where V.seq was raised; none where it was not.
+fn raised(
+    w: Went,
+    turn: u32,
+    latest: &[u32],
+    wait: &[u32],
+    point: &mut [u32],
+    list: &mut [u32],
+    listed: u32,
+) -> u32
+    requires { ⌜ Fits (now point) (now list) listed turn × (CallsWithin (now latest) × ((length (now latest) ≡ 33) × ((length (now wait) ≡ 33) × ((w .n ≤ 32) × (w .saw .pid ≤ 32))))) ⌝ }
+    ensures { λ r. ⌜ rows (now (point .exit)) (now (list .exit)) r ≡ allEnterCalls turn (callsOf (now (latest .entry)) (raisers w (now (wait .entry)))) (rows (now (point .entry)) (now (list .entry)) listed) ⌝ }
+    ensures { λ r. ⌜ Fits (now (point .exit)) (now (list .exit)) r turn ⌝ }
+{
+    let raises = w.raises;
+    let n = w.n;
+    let saw = w.saw;
+    if raises {
+        return raise(latest, wait, n, saw, turn, point, list, listed);
+    }
+    listed
+}
+
+// A turn with an operation that did not end its call.
+fn going(
+    s: Tally,
+    e: Errand,
+    w: Went,
+    next: &[u32],
+    head: &mut [u32],
+    latest: &mut [u32],
+    wait: &mut [u32],
+    own: &mut [u32],
+    point: &mut [u32],
+    list: &mut [u32],
+) -> Tally
+    requires { ⌜ Holds e (now next) (now head) (now latest) (now own) × (Fits (now point) (now list) (s .listed) (e .turn) × (CallsWithin (now latest) × ((length (now wait) ≡ 33) × ((s .begun < 65536) × ((w .n ≤ 32) × (w .saw .pid ≤ 32)))))) ⌝ }
+    ensures { λ r. ⌜ Gone e w s r (now (next .entry)) (now (head .entry)) (now (latest .entry)) (now (wait .entry)) (now (own .entry)) (now (point .entry)) (now (list .entry)) (now (head .exit)) (now (latest .exit)) (now (own .exit)) (now (point .exit)) (now (list .exit)) ⌝ }
+    ensures { λ r. ⌜ now (wait .exit) ≡ set (now (wait .entry)) (e .station) (w .waits) ⌝ }
+    ensures { λ r. ⌜ Fits (now (point .exit)) (now (list .exit)) (r .listed) (e .turn) ⌝ }
+{
+    let at = e.station as usize;
+    let turn = e.turn;
+    let own_turns = w.own;
+    let waits = w.waits;
+    let a = acted(s, e, own_turns, next, head, latest, own);
+    let listed = raised(w, turn, latest, wait, point, list, a.listed);
+    wait[at] = waits;
+    Tally {
+        idle: a.idle,
+        begun: a.begun,
+        ended: a.ended,
+        listed,
+    }
 }

@@ -1,5 +1,7 @@
 // A run of a file: calls out of its table are offered to the stations, turn by turn, and a book is kept of what took effect when.
 // Its modules: calls (which call is whose next), book (what is kept by stations and by calls).
+use card::Claim;
+
 mod book;
 mod calls;
 
@@ -17,4 +19,13 @@ pub(crate) struct Errand {
     pub station: u32,
     pub call: u32,
     pub rests: bool,
+}
+
+// What is left of a turn that did not end its call: the own turns made, the version that the station then waits for, whether V.seq was raised, and to whose claim.
+pub(crate) struct Went {
+    pub own: u32,
+    pub waits: u32,
+    pub raises: bool,
+    pub saw: Claim,
+    pub n: u32,
 }

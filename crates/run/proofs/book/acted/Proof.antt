@@ -1,7 +1,9 @@
 use borrow.Author.Needs.{needs}
 use native.Mathlib.Omega.{arith}
+use mathlib.Core.Path.{refl, _∙_}
 use lib.ListN.{length-set}
 use Rattle.run.specs.Book.{Acted}
+use Rattle.run.proofs.Points.{within-set}
 use Rattle.run.proofs.book.acted.Statement.{statement}
 use Rattle.run.proofs.book.acted.Tie as tie
 
@@ -24,6 +26,13 @@ acted-spec =
     (λ c. simp length-set)
     (λ c. simp length-set)
     (λ c. simp length-set)
-    (λ c told point list. simp (c .before .before .if1 .taken))
+    (λ c.
+    let s = c .before .before .before .before in
+    let a = s .args in (
+      λ told point list. simp (c .before .before .if1 .taken),
+      (length-set (a .latest .now) (a .e .station) (a .e .call) ∙ s .pre .0 .latests, (within-set (a .latest .now) (a .e .station) (a .e .call) (s .pre .0 .call) (s .pre .1 .0), refl)),
+    ))
     (λ c. simp length-set)
-    (λ c told point list. simp (c .if1 .left)))
+    (λ c.
+    let s = c .before .before in
+    (λ told point list. simp (c .if1 .left), (s .pre .0 .latests, (s .pre .1 .0, refl)))))
