@@ -7,6 +7,7 @@ use Prim.Native.Nat.{ℕ, _+_, _<_}
 use Rattle.run.specs.declared.Tally.{Tally}
 use Rattle.run.specs.declared.Errand.{Errand}
 use Rattle.run.specs.declared.Went.{Went}
+use Rattle.run.specs.declared.Finish.{Finish}
 use lib.ListN.{length, getD, set, take}
 
 -- by station: its next call and its latest one. By call: own turns so far, 0 till it begins; 0 till it ends and then its answer plus 1; the turn of its point, 0 till it has one.
@@ -148,3 +149,9 @@ Gone e w s r next head latest wait own point list head′ latest′ own′ point
     (told : List ℕ)
     → bookOf head′ latest′ own′ told point′ list′ r
     ≡ allEnter (e .turn) (raisers w wait) (acts (e .rests) (e .station) (e .call) (getD next (e .call) 0) (w .own) (bookOf head latest own told point list s))
+
+-- the book after the operation that ended the errand's call
+unfoldable pub finishes : Errand → Finish → List ℕ → Book → Book
+finishes e f next b =
+    ends (e .call) (f .result)
+    (allEnter (e .turn) (cond (e .rests) (e .station ∷ []) []) (acts (e .rests) (e .station) (e .call) (getD next (e .call) 0) (f .own) b))

@@ -1,11 +1,13 @@
 // The book of a run, in lent rows: who has a point, and in which order.
 ghost use mathlib.Core.Path.{_≡_};
-ghost use mathlib.Core.List.{_∷_};
+ghost use mathlib.Core.Bool.{cond};
+ghost use mathlib.Core.List.{[], _∷_};
 ghost use Prim.Native.Nat.{_<_, _≤_};
 ghost use lib.ListN.{length, set};
-ghost use Rattle.run.specs.Book.{Holds, Acted, raisers, Gone};
+ghost use Rattle.run.specs.Book.{Holds, Acted, raisers, Gone, bookOf, finishes};
 ghost use Rattle.run.specs.Rows.{rows, enterCall, allEnterCalls, callsOf, waiters, CallsWithin, Fits};
 use crate::Errand;
+use crate::Finish;
 use crate::Tally;
 use crate::Went;
 use card::Claim;
@@ -71,7 +73,7 @@ fn acted(
 ) -> Tally
     requires { ⌜ Holds e (now next) (now head) (now latest) (now own) × (CallsWithin (now latest) × (s .begun < 65536)) ⌝ }
     ensures { λ r. ⌜ Acted e s r turns (now (next .entry)) (now (head .entry)) (now (latest .entry)) (now (own .entry)) (now (head .exit)) (now (latest .exit)) (now (own .exit)) ⌝ }
-    ensures { λ r. ⌜ (length (now (latest .exit)) ≡ 33) × (CallsWithin (now (latest .exit)) × (r .listed ≡ s .listed)) ⌝ }
+    ensures { λ r. ⌜ (length (now (latest .exit)) ≡ 33) × (CallsWithin (now (latest .exit)) × ((r .listed ≡ s .listed) × (r .ended ≡ s .ended))) ⌝ }
 {
     let at = e.station as usize;
     let call = e.call;
@@ -143,6 +145,56 @@ fn going(
         idle: a.idle,
         begun: a.begun,
         ended: a.ended,
+        listed,
+    }
+}
+
+// A call that ends in its first turn has its point there.
+fn at_once(e: Errand, point: &mut [u32], list: &mut [u32], listed: u32) -> u32
+    requires { ⌜ Fits (now point) (now list) listed (e .turn) × (e .call < 1025) ⌝ }
+    ensures { λ r. ⌜ rows (now (point .exit)) (now (list .exit)) r ≡ allEnterCalls (e .turn) (cond (e .rests) (e .call ∷ []) []) (rows (now (point .entry)) (now (list .entry)) listed) ⌝ }
+    ensures { λ r. ⌜ Fits (now (point .exit)) (now (list .exit)) r (e .turn) ⌝ }
+{
+    let turn = e.turn;
+    let call = e.call;
+    let rests = e.rests;
+    if rests {
+        return enter(point, list, listed, call, turn);
+    }
+    listed
+}
+
+// A turn that ended its call with a result.
+pub(crate) fn finished(
+    s: Tally,
+    e: Errand,
+    f: Finish,
+    next: &[u32],
+    head: &mut [u32],
+    latest: &mut [u32],
+    wait: &mut [u32],
+    own: &mut [u32],
+    told: &mut [u64],
+    point: &mut [u32],
+    list: &mut [u32],
+) -> Tally
+    requires { ⌜ Holds e (now next) (now head) (now latest) (now own) × (Fits (now point) (now list) (s .listed) (e .turn) × (CallsWithin (now latest) × ((length (now wait) ≡ 33) × ((s .begun < 65536) × ((s .ended < 65536) × (length (now told) ≡ 1025)))))) ⌝ }
+    ensures { λ r. ⌜ bookOf (now (head .exit)) (now (latest .exit)) (now (own .exit)) (now (told .exit)) (now (point .exit)) (now (list .exit)) r ≡ finishes e f (now (next .entry)) (bookOf (now (head .entry)) (now (latest .entry)) (now (own .entry)) (now (told .entry)) (now (point .entry)) (now (list .entry)) s) ⌝ }
+    ensures { λ r. ⌜ now (wait .exit) ≡ set (now (wait .entry)) (e .station) 0 ⌝ }
+    ensures { λ r. ⌜ Fits (now (point .exit)) (now (list .exit)) (r .listed) (e .turn) ⌝ }
+{
+    let at = e.station as usize;
+    let c = e.call as usize;
+    let took = f.own;
+    let mark = (f.result as u64) + 1;
+    let a = acted(s, e, took, next, head, latest, own);
+    let listed = at_once(e, point, list, a.listed);
+    told[c] = mark;
+    wait[at] = 0;
+    Tally {
+        idle: a.idle,
+        begun: a.begun,
+        ended: a.ended + 1,
         listed,
     }
 }

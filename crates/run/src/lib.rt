@@ -29,3 +29,9 @@ pub(crate) struct Went {
     pub saw: Claim,
     pub n: u32,
 }
+
+// What a turn that ended its call handed back.
+pub(crate) struct Finish {
+    pub result: u32,
+    pub own: u32,
+}

@@ -30,9 +30,9 @@ acted-spec =
     let s = c .before .before .before .before in
     let a = s .args in (
       λ told point list. simp (c .before .before .if1 .taken),
-      (length-set (a .latest .now) (a .e .station) (a .e .call) ∙ s .pre .0 .latests, (within-set (a .latest .now) (a .e .station) (a .e .call) (s .pre .0 .call) (s .pre .1 .0), refl)),
+      (length-set (a .latest .now) (a .e .station) (a .e .call) ∙ s .pre .0 .latests, (within-set (a .latest .now) (a .e .station) (a .e .call) (s .pre .0 .call) (s .pre .1 .0), (refl, refl))),
     ))
     (λ c. simp length-set)
     (λ c.
     let s = c .before .before in
-    (λ told point list. simp (c .if1 .left), (s .pre .0 .latests, (s .pre .1 .0, refl)))))
+    (λ told point list. simp (c .if1 .left), (s .pre .0 .latests, (s .pre .1 .0, (refl, refl))))))

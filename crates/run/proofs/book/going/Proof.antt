@@ -26,7 +26,7 @@ going-spec =
     let a = c .before .before .before .before .before .before .before .before .before .before in
     let s = a .before .before .before .before .before .before .before .before .before .before .before .before in
     let k = a .acted .ensures .1 in
-    (rw (k .1 .1) (s .pre .1 .0), (k .1 .0, (k .0, (s .pre .1 .1 .1 .0, s .pre .1 .1 .1 .1 .1)))))
+    (rw (k .1 .1 .0) (s .pre .1 .0), (k .1 .0, (k .0, (s .pre .1 .1 .1 .0, s .pre .1 .1 .1 .1 .1)))))
     (λ c. search needs)
     (λ c.
     let s = entry c in
