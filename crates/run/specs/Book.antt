@@ -4,6 +4,8 @@ use mathlib.Core.Bool.{Bool, cond}
 use mathlib.Core.List.{List, [], _∷_}
 use Rattle.run.specs.Rows.{enterCall, waiters}
 use Prim.Native.Nat.{ℕ, _+_, _<_}
+use Rattle.method.specs.declared.Answer.{Answer}
+use Rattle.method.specs.declared.Answer.the-variants.{Idle, Going, Ended, Refused}
 use Rattle.run.specs.declared.Tally.{Tally}
 use Rattle.run.specs.declared.Errand.{Errand}
 use Rattle.run.specs.declared.Went.{Went}
@@ -155,3 +157,21 @@ unfoldable pub finishes : Errand → Finish → List ℕ → Book → Book
 finishes e f next b =
     ends (e .call) (f .result)
     (allEnter (e .turn) (cond (e .rests) (e .station ∷ []) []) (acts (e .rests) (e .station) (e .call) (getD next (e .call) 0) (f .own) b))
+
+-- the same for a turn that did not end its call, by its answer
+unfoldable pub passes : Answer → Errand → Went → List ℕ → List ℕ → Book → Book
+passes Idle e w next wait b = idles b
+passes Going e w next wait b = allEnter (e .turn) (raisers w wait) (acts (e .rests) (e .station) (e .call) (getD next (e .call) 0) (w .own) b)
+passes (Ended result own) e w next wait b = b
+passes (Refused number) e w next wait b = b
+
+unfoldable pub Passed : Answer → Errand → Went → Tally → Tally → List ℕ → List ℕ → List ℕ → List ℕ → List ℕ → List ℕ → List ℕ → List ℕ → List ℕ → List ℕ → List ℕ → List ℕ → Type 0
+Passed x e w s r next head latest wait own point list head′ latest′ own′ point′ list′ =
+    (told : List ℕ) → bookOf head′ latest′ own′ told point′ list′ r ≡ passes x e w next wait (bookOf head latest own told point list s)
+
+-- the versions that the stations wait for after it
+unfoldable pub waitsAfter : Answer → Errand → Went → List ℕ → List ℕ
+waitsAfter Idle e w wait = wait
+waitsAfter Going e w wait = set wait (e .station) (w .waits)
+waitsAfter (Ended result own) e w wait = wait
+waitsAfter (Refused number) e w wait = wait

@@ -4,13 +4,14 @@ ghost use mathlib.Core.Bool.{cond};
 ghost use mathlib.Core.List.{[], _∷_};
 ghost use Prim.Native.Nat.{_<_, _≤_};
 ghost use lib.ListN.{length, set};
-ghost use Rattle.run.specs.Book.{Holds, Acted, raisers, Gone, bookOf, finishes};
+ghost use Rattle.run.specs.Book.{Holds, Acted, raisers, Gone, bookOf, finishes, Passed, waitsAfter};
 ghost use Rattle.run.specs.Rows.{rows, enterCall, allEnterCalls, callsOf, waiters, CallsWithin, Fits};
 use crate::Errand;
 use crate::Finish;
 use crate::Tally;
 use crate::Went;
 use card::Claim;
+use method::Answer;
 
 // Call c has its point in this turn, if it is one and has none yet; hands back how many are listed.
 pub(crate) fn enter(point: &mut [u32], list: &mut [u32], listed: u32, c: u32, turn: u32) -> u32
@@ -196,5 +197,37 @@ pub(crate) fn finished(
         begun: a.begun,
         ended: a.ended + 1,
         listed,
+    }
+}
+
+// A turn that did not end its call: idle, an operation after which the call goes on, or refused, which counts for nothing.
+pub(crate) fn went(
+    s: Tally,
+    x: Answer,
+    e: Errand,
+    w: Went,
+    next: &[u32],
+    head: &mut [u32],
+    latest: &mut [u32],
+    wait: &mut [u32],
+    own: &mut [u32],
+    point: &mut [u32],
+    list: &mut [u32],
+) -> Tally
+    requires { ⌜ Holds e (now next) (now head) (now latest) (now own) × (Fits (now point) (now list) (s .listed) (e .turn) × (CallsWithin (now latest) × ((length (now wait) ≡ 33) × ((s .begun < 65536) × ((w .n ≤ 32) × ((w .saw .pid ≤ 32) × (s .idle < 65536))))))) ⌝ }
+    ensures { λ r. ⌜ Passed x e w s r (now (next .entry)) (now (head .entry)) (now (latest .entry)) (now (wait .entry)) (now (own .entry)) (now (point .entry)) (now (list .entry)) (now (head .exit)) (now (latest .exit)) (now (own .exit)) (now (point .exit)) (now (list .exit)) ⌝ }
+    ensures { λ r. ⌜ now (wait .exit) ≡ waitsAfter x e w (now (wait .entry)) ⌝ }
+    ensures { λ r. ⌜ Fits (now (point .exit)) (now (list .exit)) (r .listed) (e .turn) ⌝ }
+{
+    match x {
+        Answer::Idle => Tally {
+            idle: s.idle + 1,
+            begun: s.begun,
+            ended: s.ended,
+            listed: s.listed,
+        },
+        Answer::Going => going(s, e, w, next, head, latest, wait, own, point, list),
+        Answer::Ended { result: _, own: _ } => s,
+        Answer::Refused(_) => s,
     }
 }
