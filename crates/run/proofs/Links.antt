@@ -1,17 +1,18 @@
 -- Whose next call is which, from the table's end down. Assumes nothing.
 use mathlib.Core.Path.{_≡_, refl, _∙_, sym, ap}
-use mathlib.Core.Bool.{Bool, true, false, cond}
+use mathlib.Core.Bool.{Bool, true, false, cond, not, _&&_}
 use mathlib.Core.List.{List}
 use Prim.Native.Nat.{ℕ, zero, suc, _-_, _<_, _≤_}
 use native.Mathlib.Omega.{arith}
 use native.Mathlib.Decide.{ℕ-discrete}
-use borrow.Author.Tests.{eq-eqb, ne-eqb}
+use borrow.Author.Tests.{eq-eqb, ne-eqb, eqb-true, not-false}
+use Rattle.method.specs.Record.{call}
 use lib.Dec.{eqb}
 use lib.ListN.{length, getD, set, replicate, getD-replicate}
 use lib.Seq.{getD-set-same, getD-set-other}
 use Rattle.runfile.specs.First.{firstFrom}
 use Rattle.runfile.specs.Layout.{records, callOf}
-use Rattle.run.specs.Calls.{madeBy, callAfter, Linked}
+use Rattle.run.specs.Calls.{callAfter, offer, Linked}
 
 -- no call stands after the last
 pub none-after : (table : List ℕ) (i c : ℕ) → records table ≤ c → callAfter table i c ≡ 0
@@ -68,3 +69,9 @@ link-down table next head zero p h n l o k = absurd (omega arith)
 link-down table next head (suc c) p h n l o k =
     let e : suc c - 1 ≡ c = omega arith in
     rw e (link-more table next head c h n (sym l) o k)
+
+-- where there is no call, or the station is in one, none is on offer
+pub none-on-offer : (table : List ℕ) (rests : Bool) (c : ℕ) → (rests && not (eqb c 0)) ≡ false → offer table (cond rests c 0) ≡ call 3 0 0
+unfolding callOf
+none-on-offer table false c e = refl
+none-on-offer table true c e = rw (eqb-true c 0 (not-false (eqb c 0) e))

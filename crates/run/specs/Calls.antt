@@ -3,8 +3,13 @@
 use mathlib.Core.Path.{_≡_}
 use mathlib.Core.Bool.{Bool, cond}
 use mathlib.Core.List.{List}
-use Prim.Native.Nat.{ℕ, suc, _-_, _<_, _≤_}
-use lib.Dec.{eqb}
+use Prim.Native.Nat.{ℕ, suc, _+_, _-_, _<_, _≤_}
+use lib.Dec.{ltb, eqb}
+use Rattle.card.specs.declared.Halves.{Halves}
+use Rattle.method.specs.declared.Station.{Station}
+use Rattle.method.specs.Effect.{raises}
+use Rattle.run.specs.declared.Errand.{Errand}
+use Rattle.run.specs.declared.Went.{Went}
 use lib.ListN.{getD}
 use Rattle.method.specs.declared.Place.{Place}
 use Rattle.method.specs.declared.Call.{Call}
@@ -35,6 +40,16 @@ onOffer p upcoming = cond (eqb (num p) 0) upcoming 0
 -- the call that the turn is for: the one on offer, or the one that the station is in
 abbrev pub callFor : Place → ℕ → ℕ → ℕ
 callFor p upcoming latest = cond (eqb (num p) 0) upcoming latest
+
+abbrev pub errandOf : Place → ℕ → ℕ → ℕ → ℕ → Errand
+errandOf p turn i upcoming latest = record { turn = turn; station = i; call = callFor p upcoming latest; rests = eqb (num p) 0 }
+
+-- the V.seq that a station in a call waits for, s + 2; 0 at rest
+abbrev pub waits : Station → ℕ
+waits t = cond (ltb (num (t .place)) 11) 0 (t .s + 2)
+
+abbrev pub leftOf : Station → Halves → Station → ℕ → Went
+leftOf t v after n = record { own = after .own; waits = waits after; raises = raises (t .place) v t; saw = t .saw; n = n }
 
 -- every call's station is one of 0 to 32
 abbrev pub StationsWithin : List ℕ → Type 0

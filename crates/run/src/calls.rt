@@ -1,23 +1,91 @@
 // Whose next call is which: found once for the whole table, so that a turn finds it in one step.
 ghost use mathlib.Core.Path.{_≡_};
+ghost use mathlib.Core.Bool.{cond};
 ghost use Prim.Native.Nat.{_<_, _≤_};
 ghost use lib.ListN.{replicate};
 ghost use Rattle.method.specs.declared.Call.{Call};
 ghost use Rattle.runfile.specs.Layout.{records};
-ghost use Rattle.run.specs.Calls.{offer, Linked, StationsWithin};
+ghost use Rattle.run.specs.Calls.{offer, errandOf, waits, leftOf, Linked, StationsWithin};
+use crate::Errand;
+use crate::Went;
+use card::Halves;
 use method::Call;
+use method::Station;
 
-// The call of number c as an offer, or none where c is 0.
-pub(crate) fn offered(table: &[u8], c: u32) -> Call
-    ensures { λ r. ⌜ r ≡ offer (now (table .entry)) c ⌝ }
+// What the turn of a station is for, which stands at t, has call next on offer and has made call latest last.
+pub(crate) fn errand(t: Station, turn: u32, station: u32, next: u32, latest: u32) -> Errand
+    ensures { λ r. ⌜ r ≡ errandOf (t .place) turn station next latest ⌝ }
 {
-    let at = c as usize;
-    let r = runfile::call_at(table, at);
-    let kind = if c == 0 { 3 } else { r.kind };
+    let place = t.place;
+    let rests = place.number() == 0;
+    if rests {
+        return Errand {
+            turn,
+            station,
+            call: next,
+            rests: true,
+        };
+    }
+    Errand {
+        turn,
+        station,
+        call: latest,
+        rests: false,
+    }
+}
+
+// The errand's call as an offer to a station at rest; none where there is no call, and to a station in one.
+pub(crate) fn offered(table: &[u8], e: Errand) -> Call
+    ensures { λ r. ⌜ r ≡ offer (now (table .entry)) (cond (e .rests) (e .call) 0) ⌝ }
+{
+    let rests = e.rests;
+    let c = e.call;
+    if rests & (c != 0) {
+        let at = c as usize;
+        let r = runfile::call_at(table, at);
+        return Call {
+            kind: r.kind,
+            a: r.a,
+            b: r.b,
+        };
+    }
     Call {
-        kind,
-        a: r.a,
-        b: r.b,
+        kind: 3,
+        a: 0,
+        b: 0,
+    }
+}
+
+// The version that a station in a call waits for: V.seq when its contest is over. 0 at rest.
+fn waiting(t: Station) -> u32
+    requires { ⌜ t .s ≤ 4294967292 ⌝ }
+    ensures { λ r. ⌜ r ≡ waits t ⌝ }
+{
+    let s = t.s;
+    let place = t.place;
+    if place.number() < 11 {
+        return 0;
+    }
+    s + 2
+}
+
+// What is left of a turn of n stations that took the station from t to after, and read V as v.
+pub(crate) fn left(t: Station, v: Halves, after: Station, n: u32) -> Went
+    requires { ⌜ after .s ≤ 4294967292 ⌝ }
+    ensures { λ r. ⌜ r ≡ leftOf t v after n ⌝ }
+{
+    let saw = t.saw;
+    let own = after.own;
+    let version = v.first;
+    let place = t.place;
+    let raises = (place.number() == 19) & (version < saw.seq);
+    let waits = waiting(after);
+    Went {
+        own,
+        waits,
+        raises,
+        saw,
+        n,
     }
 }
 
