@@ -1,3 +1,4 @@
 pub mod Links
 pub mod Points
 pub mod Books
+pub mod Steps

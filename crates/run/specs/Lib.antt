@@ -2,3 +2,4 @@ pub mod Calls
 pub mod Rows
 pub mod Book
 pub mod Run
+pub mod Drive

@@ -1,5 +1,6 @@
 // A run of a file: calls out of its table are offered to the stations, turn by turn, and a book is kept of what took effect when.
 // Its modules: calls (which call is whose next), book (what is kept by stations and by calls).
+use bench::Bench;
 use card::Claim;
 
 mod book;
@@ -34,4 +35,10 @@ pub(crate) struct Went {
 pub(crate) struct Finish {
     pub result: u32,
     pub own: u32,
+}
+
+// The bench and the counts at the end of a run.
+pub(crate) struct Drove {
+    pub bench: Bench,
+    pub tally: Tally,
 }

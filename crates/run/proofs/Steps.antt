@@ -1,0 +1,102 @@
+-- One turn of the run loop against one turn of the run: the offer, the bench, and the book. Assumes nothing.
+use mathlib.Core.Path.{_≡_, refl, _∙_, sym, ap}
+use mathlib.Core.Logic.{_⊎_, inl, inr, ⊎-elim}
+use mathlib.Core.Bool.{Bool, true, false, cond, not, _&&_, true≢false, false≢true}
+use mathlib.Core.List.{List, [], _∷_, _++_}
+use Prim.Native.Nat.{ℕ, zero, suc, _+_, _-_, _<_, _≤_}
+use native.Mathlib.Omega.{arith}
+use borrow.Author.Tests.{ltb-true, ltb-false, lt-leb, le-leb, le-ltb, eqb-true, eq-eqb, ne-eqb}
+use lib.Dec.{leb, ltb, eqb}
+use lib.ListN.{length, getD}
+use Rattle.rules.proofs.Facts.{either-way, and-left, and-right}
+use Rattle.card.specs.declared.Halves.{Halves}
+use Rattle.method.specs.declared.Place.{Place}
+use Rattle.method.specs.declared.Station.{Station}
+use Rattle.method.specs.declared.Answer.the-variants.{Going, Ended}
+use Rattle.method.specs.Record.{num}
+use Rattle.method.specs.Effect.{oneWord, raises, loses, losers, points}
+use Rattle.bench.specs.declared.Bench.{Bench}
+use Rattle.bench.specs.declared.Moved.{Moved}
+use Rattle.bench.specs.Record.{stationAt, onBench}
+use Rattle.bench.specs.Sound.{sound}
+use Rattle.bench.specs.Turn.{badStation, badOffer, stepOf, turnOf}
+use Rattle.bench.specs.Reach.{reaching, moveOf}
+use Rattle.bench.specs.Promise.{turnBy}
+use Rattle.bench.proofs.Sounds.{ready-at}
+use Rattle.bench.proofs.Bridge.{taken, putBack, step-law}
+use Rattle.runfile.specs.First.{firstFrom}
+use Rattle.runfile.specs.Layout.{records, callOf}
+use Rattle.run.specs.declared.Errand.{Errand}
+use Rattle.run.specs.declared.Went.{Went}
+use Rattle.run.specs.declared.Finish.{Finish}
+use Rattle.run.specs.Calls.{madeBy, callAfter, offer, offering, onOffer, callFor, errandOf, waits, leftOf, Linked}
+use Rattle.run.specs.Rows.{waiters}
+use Rattle.run.specs.Book.{Book, acts, allEnter, raisers, passes, finishes}
+use Rattle.run.specs.Run.{noted}
+
+-- on a sound bench, a turn of a good station with a good offer is refused 12 or 13 or is the table's row
+turn-is-step : (w : Bench) (i kind a b : ℕ) → sound w ≡ true → badStation w i ≡ false → badOffer kind a b ≡ false
+    → turnOf w i kind a b ≡ stepOf onBench (stationAt w i .place) w i (stationAt w i) kind a b
+unfolding turnOf stepOf
+turn-is-step w i kind a b s p q = rw (s, p, q)
+
+station-good : (w : Bench) (i : ℕ) → 1 ≤ i → i ≤ w .n → badStation w i ≡ false
+station-good w i h g = rw (ne-eqb i 0 (λ e. omega arith), le-ltb (w .n) i g)
+
+-- what the errand offers is what the run offers
+same-offer : (p : Place) (d l : ℕ) → cond (eqb (num p) 0) (callFor p d l) 0 ≡ onOffer p d
+same-offer p d l = either-way (eqb (num p) 0) (λ e. rw e) (λ e. rw e)
+
+-- the bench after the move, and its answer, are the turn's
+module _ (w : Bench) (table : List ℕ) (i d l : ℕ) (s : sound w ≡ true) (low : 1 ≤ i) (high : i ≤ w .n) (inside : i < 33)
+    (good : (c : ℕ) → badOffer (offer table c .kind) (offer table c .a) (offer table c .b) ≡ false) where
+  abbrev p : Place
+  p = stationAt w i .place
+
+  pub moved-turn : (k c : ℕ) (m : Moved) → c ≡ cond (eqb (num p) 0) (callFor p d l) 0 → k ≡ reaching p i (stationAt w i)
+      → m ≡ moveOf (taken w i k) (offer table c .kind) (offer table c .a) (offer table c .b) → putBack w i k m ≡ turnBy w (offering table i (onOffer p d))
+  moved-turn k c m e q r =
+      step-law w i k (offer table c .kind) (offer table c .a) (offer table c .b) m (ready-at w i s inside) q r
+      ∙ ap (λ c. stepOf onBench p w i (stationAt w i) (offer table c .kind) (offer table c .a) (offer table c .b)) (e ∙ same-offer p d l)
+      ∙ sym (turn-is-step w i _ _ _ s (station-good w i low high) (good (onOffer p d)))
+
+-- a call that comes after another is its station's own
+next-mine : (p : ℕ → Bool) (i m : ℕ) → (firstFrom p i m ≡ 0) ⊎ ((p (firstFrom p i m - 1) ≡ true) × (firstFrom p i m ≤ i + m) × (1 ≤ firstFrom p i m))
+unfolding firstFrom
+next-mine p i zero = inl refl
+next-mine p i (suc m) =
+    either-way (p i)
+    (λ t.
+    let e : suc i - 1 ≡ i = omega arith in
+    rw t (inr (rw e t, omega arith, omega arith)))
+    (λ f. rw f (⊎-elim (λ z. inl z) (λ k. inr (k .0, omega (arith, k .1), k .2)) (next-mine p (suc i) m)))
+
+pub mine-after : (table : List ℕ) (i c : ℕ) → c ≤ records table
+    → (callAfter table i c ≡ 0) ⊎ ((callOf table (callAfter table i c) .station ≡ i) × (callAfter table i c ≤ records table))
+unfolding callAfter
+mine-after table i c h =
+    let f = firstFrom (madeBy table i) c (records table - c) in
+    ⊎-elim (λ z. inl z)
+    (λ k.
+    let e : suc (f - 1) ≡ f = omega (arith, k .2) in
+    inr (rw e at (eqb-true (callOf table (suc (f - 1)) .station) i (k .0)), omega (arith, k .1)))
+    (next-mine (madeBy table i) c (records table - c))
+
+-- those that wait are those that lose
+module _ (w : Bench) (wait : List ℕ) (i : ℕ) (t : Station) (seen : (j : ℕ) → j < 33 → getD wait j 0 ≡ waits (stationAt w j)) where
+  one-waits : (j : ℕ) → j < 33 → 0 < t .saw .seq
+      → (not (eqb j (t .saw .pid)) && eqb (getD wait j 0) (t .saw .seq)) ≡ loses oneWord i (t .saw) j (stationAt w j)
+  one-waits j h g =
+      let o = stationAt w j in
+      ap (λ x. not (eqb j (t .saw .pid)) && x)
+      (ap (λ x. eqb x (t .saw .seq)) (seen j h)
+      ∙ either-way (ltb (num (o .place)) 11)
+      (λ e. rw (e, lt-leb 11 (num (o .place)) (ltb-true (num (o .place)) 11 e), ne-eqb 0 (t .saw .seq) (λ q. omega arith)))
+      (λ e. rw (e, le-leb 11 (num (o .place)) (ltb-false (num (o .place)) 11 e))))
+
+  pub all-wait : (k : ℕ) → k < 33 → 0 < t .saw .seq → waiters wait (t .saw .pid) (t .saw .seq) k ≡ losers oneWord i (t .saw) (stationAt w) k
+  unfolding waiters losers
+  all-wait zero h g = refl
+  all-wait (suc k) h g =
+      ap (λ l. l ++ cond (not (eqb (suc k) (t .saw .pid)) && eqb (getD wait (suc k) 0) (t .saw .seq)) (suc k ∷ []) []) (all-wait k (omega arith) g)
+      ∙ ap (λ x. losers oneWord i (t .saw) (stationAt w) k ++ cond x (suc k ∷ []) []) (one-waits (suc k) h g)
