@@ -11,9 +11,11 @@ use lib.ListN.{length, getD}
 use Rattle.rules.proofs.Facts.{either-way, and-left, and-right}
 use Rattle.card.specs.declared.Halves.{Halves}
 use Rattle.method.specs.declared.Place.{Place}
+use Rattle.method.specs.declared.Place.the-variants.{Rest, At11, At12, At13, At14, At15, At16, At18, At19, At20}
 use Rattle.method.specs.declared.Station.{Station}
-use Rattle.method.specs.declared.Answer.the-variants.{Going, Ended}
+use Rattle.method.specs.declared.Answer.the-variants.{Idle, Going, Ended}
 use Rattle.method.specs.Record.{num}
+use Rattle.method.specs.Table.{row}
 use Rattle.method.specs.Effect.{oneWord, raises, loses, losers, points}
 use Rattle.bench.specs.declared.Bench.{Bench}
 use Rattle.bench.specs.declared.Moved.{Moved}
@@ -31,7 +33,7 @@ use Rattle.run.specs.declared.Went.{Went}
 use Rattle.run.specs.declared.Finish.{Finish}
 use Rattle.run.specs.Calls.{madeBy, callAfter, offer, offering, onOffer, callFor, errandOf, waits, leftOf, Linked}
 use Rattle.run.specs.Rows.{waiters}
-use Rattle.run.specs.Book.{Book, acts, allEnter, raisers, passes, finishes}
+use Rattle.run.specs.Book.{Book, acts, allEnter, ends, raisers, passes, finishes}
 use Rattle.run.specs.Run.{noted}
 
 -- on a sound bench, a turn of a good station with a good offer is refused 12 or 13 or is the table's row
@@ -100,3 +102,74 @@ module _ (w : Bench) (wait : List ℕ) (i : ℕ) (t : Station) (seen : (j : ℕ)
   all-wait (suc k) h g =
       ap (λ l. l ++ cond (not (eqb (suc k) (t .saw .pid)) && eqb (getD wait (suc k) 0) (t .saw .seq)) (suc k ∷ []) []) (all-wait k (omega arith) g)
       ∙ ap (λ x. losers oneWord i (t .saw) (stationAt w) k ++ cond x (suc k ∷ []) []) (one-waits (suc k) h g)
+
+-- a station at rest with no call on offer is idle
+idle-offer : (p : Place) (w : Bench) (i : ℕ) (t : Station) → eqb (num p) 0 ≡ true → stepOf onBench p w i t 3 0 0 .answer ≡ Idle
+unfolding stepOf row
+idle-offer Rest w i t e = refl
+idle-offer At11 w i t e = absurd (false≢true e)
+idle-offer At12 w i t e = absurd (false≢true e)
+idle-offer At13 w i t e = absurd (false≢true e)
+idle-offer At14 w i t e = absurd (false≢true e)
+idle-offer At15 w i t e = absurd (false≢true e)
+idle-offer At16 w i t e = absurd (false≢true e)
+idle-offer At18 w i t e = absurd (false≢true e)
+idle-offer At19 w i t e = absurd (false≢true e)
+idle-offer At20 w i t e = absurd (false≢true e)
+
+-- so one that acts at rest has a call on offer
+pub acting : (w : Bench) (table : List ℕ) (i d : ℕ) → sound w ≡ true → 1 ≤ i → i ≤ w .n → eqb (num (stationAt w i .place)) 0 ≡ true
+    → (turnBy w (offering table i (onOffer (stationAt w i .place) d)) .answer ≡ Idle → ⊥) → 0 < d
+unfolding callOf
+acting w table i zero s low high e h =
+    let p = stationAt w i .place in
+    let z : onOffer p 0 ≡ 0 = rw e in
+    absurd
+    (h
+    (ap (λ c. turnBy w (offering table i c) .answer) z ∙ ap (λ x. x .answer) (turn-is-step w i 3 0 0 s (station-good w i low high) refl)
+    ∙ idle-offer p w i (stationAt w i) e))
+acting w table i (suc d) s low high e h = omega arith
+
+-- the book of the loop is the run's
+module _ (w : Bench) (table next wait : List ℕ) (i d l turn : ℕ)
+    (after : (c : ℕ) → 0 < c → c ≤ records table → getD next c 0 ≡ callAfter table (callOf table c .station) c)
+    (mine : (d ≡ 0) ⊎ ((callOf table d .station ≡ i) × (d ≤ records table))) where
+  abbrev t : Station
+  t = stationAt w i
+
+  abbrev here : Place
+  here = t .place
+
+  same-acts : (turns : ℕ) (b : Book) → (eqb (num here) 0 ≡ true → 0 < d)
+      → acts (eqb (num here) 0) i (callFor here d l) (getD next (callFor here d l) 0) turns b ≡ acts (eqb (num here) 0) i (callFor here d l) (callAfter table i (callFor here d l)) turns b
+  same-acts turns b h =
+      either-way (eqb (num here) 0)
+      (λ e.
+      let k : (callOf table d .station ≡ i) × (d ≤ records table) = ⊎-elim (λ z. absurd (let g = h e in omega arith)) (λ m. m) mine in
+      rw (e, after d (h e) (k .1), k .0))
+      (λ e. rw e)
+
+  pub ended-noted : (result took own : ℕ) (b : Book) → (eqb (num here) 0 ≡ true → 0 < d)
+      → finishes (errandOf here turn i d l) (record { result = result; own = took }) next b ≡ noted table w turn i (callFor here d l) own (Ended result took) b
+  unfolding finishes noted points
+  ended-noted result took own b h =
+      ap (λ z. ends (callFor here d l) result (allEnter turn (cond (eqb (num here) 0) (i ∷ []) []) z)) (same-acts took b h)
+
+  module _ (seen : (j : ℕ) → j < 33 → getD wait j 0 ≡ waits (stationAt w j)) (few : w .n < 33) where
+    same-points : raisers (leftOf t (w .v) t (w .n)) wait ≡ points oneWord (stationAt w) (w .n) i here (w .v) t Going
+    unfolding points
+    same-points =
+        either-way (raises here (w .v) t)
+        (λ e.
+        let a = eqb (num here) 19 in
+        let b = ltb (w .v .first) (t .saw .seq) in
+        let g = ltb-true (w .v .first) (t .saw .seq) (and-right a b e) in
+        rw e (ap (λ z. t .saw .pid ∷ z) (all-wait w wait i t seen (w .n) few (omega arith))))
+        (λ e. rw e)
+
+    pub going-noted : (after′ : Station) (b : Book) → (eqb (num here) 0 ≡ true → 0 < d)
+        → passes Going (errandOf here turn i d l) (leftOf t (w .v) after′ (w .n)) next wait b ≡ noted table w turn i (callFor here d l) (after′ .own) Going b
+    unfolding passes noted
+    going-noted after′ b h =
+        ap (λ z. allEnter turn (raisers (leftOf t (w .v) t (w .n)) wait) z) (same-acts (after′ .own) b h)
+        ∙ ap (λ js. allEnter turn js (acts (eqb (num here) 0) i (callFor here d l) (callAfter table i (callFor here d l)) (after′ .own) b)) same-points
