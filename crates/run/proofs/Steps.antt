@@ -156,7 +156,7 @@ module _ (w : Bench) (table next wait : List ℕ) (i d l turn : ℕ)
       ap (λ z. ends (callFor here d l) result (allEnter turn (cond (eqb (num here) 0) (i ∷ []) []) z)) (same-acts took b h)
 
   module _ (seen : (j : ℕ) → j < 33 → getD wait j 0 ≡ waits (stationAt w j)) (few : w .n < 33) where
-    same-points : raisers (leftOf t (w .v) t (w .n)) wait ≡ points oneWord (stationAt w) (w .n) i here (w .v) t Going
+    same-points : raisers (leftOf t (w .v) 0 (w .n)) wait ≡ points oneWord (stationAt w) (w .n) i here (w .v) t Going
     unfolding points
     same-points =
         either-way (raises here (w .v) t)
@@ -167,9 +167,9 @@ module _ (w : Bench) (table next wait : List ℕ) (i d l turn : ℕ)
         rw e (ap (λ z. t .saw .pid ∷ z) (all-wait w wait i t seen (w .n) few (omega arith))))
         (λ e. rw e)
 
-    pub going-noted : (after′ : Station) (b : Book) → (eqb (num here) 0 ≡ true → 0 < d)
-        → passes Going (errandOf here turn i d l) (leftOf t (w .v) after′ (w .n)) next wait b ≡ noted table w turn i (callFor here d l) (after′ .own) Going b
+    pub going-noted : (own : ℕ) (b : Book) → (eqb (num here) 0 ≡ true → 0 < d)
+        → passes Going (errandOf here turn i d l) (leftOf t (w .v) own (w .n)) next wait b ≡ noted table w turn i (callFor here d l) own Going b
     unfolding passes noted
-    going-noted after′ b h =
-        ap (λ z. allEnter turn (raisers (leftOf t (w .v) t (w .n)) wait) z) (same-acts (after′ .own) b h)
-        ∙ ap (λ js. allEnter turn js (acts (eqb (num here) 0) i (callFor here d l) (callAfter table i (callFor here d l)) (after′ .own) b)) same-points
+    going-noted own b h =
+        ap (λ z. allEnter turn (raisers (leftOf t (w .v) 0 (w .n)) wait) z) (same-acts own b h)
+        ∙ ap (λ js. allEnter turn js (acts (eqb (num here) 0) i (callFor here d l) (callAfter table i (callFor here d l)) own b)) same-points

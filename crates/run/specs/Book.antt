@@ -168,10 +168,3 @@ passes (Refused number) e w next wait b = b
 unfoldable pub Passed : Answer → Errand → Went → Tally → Tally → List ℕ → List ℕ → List ℕ → List ℕ → List ℕ → List ℕ → List ℕ → List ℕ → List ℕ → List ℕ → List ℕ → List ℕ → Type 0
 Passed x e w s r next head latest wait own point list head′ latest′ own′ point′ list′ =
     (told : List ℕ) → bookOf head′ latest′ own′ told point′ list′ r ≡ passes x e w next wait (bookOf head latest own told point list s)
-
--- the versions that the stations wait for after it
-unfoldable pub waitsAfter : Answer → Errand → Went → List ℕ → List ℕ
-waitsAfter Idle e w wait = wait
-waitsAfter Going e w wait = set wait (e .station) (w .waits)
-waitsAfter (Ended result own) e w wait = wait
-waitsAfter (Refused number) e w wait = wait

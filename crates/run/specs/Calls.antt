@@ -48,8 +48,8 @@ errandOf p turn i upcoming latest = record { turn = turn; station = i; call = ca
 abbrev pub waits : Station → ℕ
 waits t = cond (ltb (num (t .place)) 11) 0 (t .s + 2)
 
-abbrev pub leftOf : Station → Halves → Station → ℕ → Went
-leftOf t v after n = record { own = after .own; waits = waits after; raises = raises (t .place) v t; saw = t .saw; n = n }
+abbrev pub leftOf : Station → Halves → ℕ → ℕ → Went
+leftOf t v own n = record { own = own; raises = raises (t .place) v t; saw = t .saw; n = n }
 
 -- every call's station is one of 0 to 32
 abbrev pub StationsWithin : List ℕ → Type 0

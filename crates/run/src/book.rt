@@ -3,8 +3,8 @@ ghost use mathlib.Core.Path.{_≡_};
 ghost use mathlib.Core.Bool.{cond};
 ghost use mathlib.Core.List.{[], _∷_};
 ghost use Prim.Native.Nat.{_<_, _≤_};
-ghost use lib.ListN.{length, set};
-ghost use Rattle.run.specs.Book.{Holds, Acted, raisers, Gone, bookOf, finishes, Passed, waitsAfter};
+ghost use lib.ListN.{length};
+ghost use Rattle.run.specs.Book.{Holds, Acted, raisers, Gone, bookOf, finishes, Passed};
 ghost use Rattle.run.specs.Rows.{rows, enterCall, allEnterCalls, callsOf, waiters, CallsWithin, Fits};
 use crate::Errand;
 use crate::Finish;
@@ -125,23 +125,19 @@ fn going(
     next: &[u32],
     head: &mut [u32],
     latest: &mut [u32],
-    wait: &mut [u32],
+    wait: &[u32],
     own: &mut [u32],
     point: &mut [u32],
     list: &mut [u32],
 ) -> Tally
     requires { ⌜ Holds e (now next) (now head) (now latest) (now own) × (Fits (now point) (now list) (s .listed) (e .turn) × (CallsWithin (now latest) × ((length (now wait) ≡ 33) × ((s .begun < 65536) × ((w .n ≤ 32) × (w .saw .pid ≤ 32)))))) ⌝ }
     ensures { λ r. ⌜ Gone e w s r (now (next .entry)) (now (head .entry)) (now (latest .entry)) (now (wait .entry)) (now (own .entry)) (now (point .entry)) (now (list .entry)) (now (head .exit)) (now (latest .exit)) (now (own .exit)) (now (point .exit)) (now (list .exit)) ⌝ }
-    ensures { λ r. ⌜ now (wait .exit) ≡ set (now (wait .entry)) (e .station) (w .waits) ⌝ }
     ensures { λ r. ⌜ Fits (now (point .exit)) (now (list .exit)) (r .listed) (e .turn) ⌝ }
 {
-    let at = e.station as usize;
     let turn = e.turn;
     let own_turns = w.own;
-    let waits = w.waits;
     let a = acted(s, e, own_turns, next, head, latest, own);
     let listed = raised(w, turn, latest, wait, point, list, a.listed);
-    wait[at] = waits;
     Tally {
         idle: a.idle,
         begun: a.begun,
@@ -173,25 +169,21 @@ pub(crate) fn finished(
     next: &[u32],
     head: &mut [u32],
     latest: &mut [u32],
-    wait: &mut [u32],
     own: &mut [u32],
     told: &mut [u64],
     point: &mut [u32],
     list: &mut [u32],
 ) -> Tally
-    requires { ⌜ Holds e (now next) (now head) (now latest) (now own) × (Fits (now point) (now list) (s .listed) (e .turn) × (CallsWithin (now latest) × ((length (now wait) ≡ 33) × ((s .begun < 65536) × ((s .ended < 65536) × (length (now told) ≡ 1025)))))) ⌝ }
+    requires { ⌜ Holds e (now next) (now head) (now latest) (now own) × (Fits (now point) (now list) (s .listed) (e .turn) × (CallsWithin (now latest) × ((s .begun < 65536) × ((s .ended < 65536) × (length (now told) ≡ 1025))))) ⌝ }
     ensures { λ r. ⌜ bookOf (now (head .exit)) (now (latest .exit)) (now (own .exit)) (now (told .exit)) (now (point .exit)) (now (list .exit)) r ≡ finishes e f (now (next .entry)) (bookOf (now (head .entry)) (now (latest .entry)) (now (own .entry)) (now (told .entry)) (now (point .entry)) (now (list .entry)) s) ⌝ }
-    ensures { λ r. ⌜ now (wait .exit) ≡ set (now (wait .entry)) (e .station) 0 ⌝ }
     ensures { λ r. ⌜ Fits (now (point .exit)) (now (list .exit)) (r .listed) (e .turn) ⌝ }
 {
-    let at = e.station as usize;
     let c = e.call as usize;
     let took = f.own;
     let mark = (f.result as u64) + 1;
     let a = acted(s, e, took, next, head, latest, own);
     let listed = at_once(e, point, list, a.listed);
     told[c] = mark;
-    wait[at] = 0;
     Tally {
         idle: a.idle,
         begun: a.begun,
@@ -209,14 +201,13 @@ pub(crate) fn went(
     next: &[u32],
     head: &mut [u32],
     latest: &mut [u32],
-    wait: &mut [u32],
+    wait: &[u32],
     own: &mut [u32],
     point: &mut [u32],
     list: &mut [u32],
 ) -> Tally
     requires { ⌜ Holds e (now next) (now head) (now latest) (now own) × (Fits (now point) (now list) (s .listed) (e .turn) × (CallsWithin (now latest) × ((length (now wait) ≡ 33) × ((s .begun < 65536) × ((w .n ≤ 32) × ((w .saw .pid ≤ 32) × (s .idle < 65536))))))) ⌝ }
     ensures { λ r. ⌜ Passed x e w s r (now (next .entry)) (now (head .entry)) (now (latest .entry)) (now (wait .entry)) (now (own .entry)) (now (point .entry)) (now (list .entry)) (now (head .exit)) (now (latest .exit)) (now (own .exit)) (now (point .exit)) (now (list .exit)) ⌝ }
-    ensures { λ r. ⌜ now (wait .exit) ≡ waitsAfter x e w (now (wait .entry)) ⌝ }
     ensures { λ r. ⌜ Fits (now (point .exit)) (now (list .exit)) (r .listed) (e .turn) ⌝ }
 {
     match x {

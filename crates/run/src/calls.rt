@@ -57,7 +57,7 @@ pub(crate) fn offered(table: &[u8], e: Errand) -> Call
 }
 
 // The version that a station in a call waits for: V.seq when its contest is over. 0 at rest.
-fn waiting(t: Station) -> u32
+pub(crate) fn waiting(t: Station) -> u32
     requires { ⌜ t .s ≤ 4294967292 ⌝ }
     ensures { λ r. ⌜ r ≡ waits t ⌝ }
 {
@@ -69,20 +69,16 @@ fn waiting(t: Station) -> u32
     s + 2
 }
 
-// What is left of a turn of n stations that took the station from t to after, and read V as v.
-pub(crate) fn left(t: Station, v: Halves, after: Station, n: u32) -> Went
-    requires { ⌜ after .s ≤ 4294967292 ⌝ }
-    ensures { λ r. ⌜ r ≡ leftOf t v after n ⌝ }
+// What is left of a turn of n stations that took a station at t to so many own turns, and read V as v.
+pub(crate) fn left(t: Station, v: Halves, own: u32, n: u32) -> Went
+    ensures { λ r. ⌜ r ≡ leftOf t v own n ⌝ }
 {
     let saw = t.saw;
-    let own = after.own;
     let version = v.first;
     let place = t.place;
     let raises = (place.number() == 19) & (version < saw.seq);
-    let waits = waiting(after);
     Went {
         own,
-        waits,
         raises,
         saw,
         n,

@@ -22,10 +22,9 @@ pub(crate) struct Errand {
     pub rests: bool,
 }
 
-// What is left of a turn that did not end its call: the own turns made, the version that the station then waits for, whether V.seq was raised, and to whose claim.
+// What is left of a turn that did not end its call: the own turns made, whether V.seq was raised, and to whose claim.
 pub(crate) struct Went {
     pub own: u32,
-    pub waits: u32,
     pub raises: bool,
     pub saw: Claim,
     pub n: u32,

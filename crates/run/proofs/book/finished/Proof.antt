@@ -1,20 +1,20 @@
 use borrow.Author.Needs.{needs}
-use mathlib.Core.Path.{_≡_, refl, _∙_, sym, ap}
+use mathlib.Core.Path.{_≡_, _∙_, sym, ap}
 use mathlib.Core.Bool.{cond}
 use mathlib.Core.List.{[], _∷_}
 use native.Mathlib.Omega.{arith}
-use lib.ListN.{getD, length-set}
+use lib.ListN.{getD}
 use Rattle.run.specs.Rows.{rows, allEnterCalls, callsOf}
 use Rattle.run.specs.Book.{Acted, bookOf, allEnter, ends, finishes}
 use Rattle.run.proofs.Books.{withRows, enter-all, its-own}
 use Rattle.run.proofs.book.finished.Statement.{statement}
 use Rattle.run.proofs.book.finished.Tie as tie
 
-abbrev acting : tie.After-slice-known12 → tie.After-acted
+abbrev acting : tie.After-slice-known11 → tie.After-acted
 acting c = c .before .before .before .before .before .before .before .before .before .before .before .before .before
 
-abbrev entry : tie.After-slice-known12 → tie.Start
-entry c = acting c .before .before .before .before .before .before .before .before .before .before .before .before .before .before .before
+abbrev entry : tie.After-acted → tie.Start
+entry a = a .before .before .before .before .before .before .before .before .before .before .before .before .before
 
 pub finished-spec : {M : Type 1} → statement M
 unfolding Acted finishes
@@ -23,20 +23,15 @@ finished-spec =
     (tie.spec (λ c. search needs)
     (λ c. search needs)
     (λ c. search needs)
-    (λ c. search needs)
     (λ c κs.
-    let s = c .before .before .before .before .before .before .before .before .before .before .before .before .before .before in
-    (s .pre .0, (s .pre .1 .1 .0, s .pre .1 .1 .1 .1 .0)))
+    let s = c .before .before .before .before .before .before .before .before .before .before .before .before in
+    (s .pre .0, (s .pre .1 .1 .0, s .pre .1 .1 .1 .0)))
     (λ c κs.
     let a = c .before .before .before .before .before .before .before .before in
-    let s = a .before .before .before .before .before .before .before .before .before .before .before .before .before .before .before in
-    (rw (a .acted .ensures .1 .1 .1 .0) (s .pre .1 .0), s .pre .0 .call))
-    (λ c. omega (arith, entry c .pre .0 .call))
-    (λ c. omega (arith, entry c .pre .0 .call, entry c .pre .1 .1 .1 .1 .1 .1))
-    (λ c. omega (arith, entry c .pre .0 .station))
-    (λ c. omega (arith, entry c .pre .0 .station, entry c .pre .1 .1 .1 .0))
-    (λ c. omega (arith, acting (c .before) .acted .ensures .1 .1 .1 .1, entry (c .before) .pre .1 .1 .1 .1 .1 .0))
-    (λ c. search needs)
+    (rw (a .acted .ensures .1 .1 .1 .0) (entry a .pre .1 .0), entry a .pre .0 .call))
+    (λ c. omega (arith, entry (acting c) .pre .0 .call))
+    (λ c. omega (arith, entry (acting c) .pre .0 .call, entry (acting c) .pre .1 .1 .1 .1 .1))
+    (λ c. omega (arith, acting (c .before) .acted .ensures .1 .1 .1 .1, entry (acting (c .before)) .pre .1 .1 .1 .1 .0))
     (λ c. search needs)
     (λ c. search needs)
     (λ c. search needs)
@@ -46,7 +41,7 @@ finished-spec =
     (λ c.
     let r = c .before .before .before .before .before in
     let a = acting (c .before) in
-    let s = entry (c .before) in
+    let s = entry a in
     let e = s .args .e in
     let f = s .args .f in
     let head′ = a .acted .last .1 .1 .1 .1 .0 in
@@ -61,5 +56,5 @@ finished-spec =
     in
     let entered = r .at-once .ensures .0 ∙ ap (λ cs. allEnterCalls (e .turn) cs (rows (s .args .point .now) (s .args .list .now) (a .acted .result .listed))) (sym calls) in (
       ap (λ z. ends (e .call) (f .result) (withRows b z)) entered ∙ ap (ends (e .call) (f .result)) (enter-all (e .turn) js b) ∙ ap (λ z. ends (e .call) (f .result) (allEnter (e .turn) js z)) q,
-      (refl, r .at-once .ensures .1),
+      r .at-once .ensures .1,
     )))

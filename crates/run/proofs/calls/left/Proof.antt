@@ -5,4 +5,4 @@ use Rattle.run.proofs.calls.left.Tie as tie
 pub left-spec : {M : Type 1} → statement M
 left-spec =
     tie.close
-    (tie.spec (λ c κs. search needs) (λ c κs. search needs) (λ c. simp (c .waiting .ensures, c .before .before .number .ensures)))
+    (tie.spec (λ c κs. search needs) (λ c. simp (c .before .number .ensures)))
