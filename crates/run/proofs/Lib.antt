@@ -2,3 +2,4 @@ pub mod Links
 pub mod Points
 pub mod Books
 pub mod Steps
+pub mod After

@@ -5,6 +5,7 @@ use mathlib.Core.Bool.{Bool, true, false, cond, not, _&&_, true≢false, false�
 use mathlib.Core.List.{List, [], _∷_, _++_}
 use Prim.Native.Nat.{ℕ, zero, suc, _+_, _-_, _<_, _≤_}
 use native.Mathlib.Omega.{arith}
+use native.Mathlib.Decide.{decLe}
 use borrow.Author.Tests.{ltb-true, ltb-false, lt-leb, le-leb, le-ltb, eqb-true, eq-eqb, ne-eqb}
 use lib.Dec.{leb, ltb, eqb}
 use lib.ListN.{length, getD}
@@ -35,6 +36,7 @@ use Rattle.run.specs.Calls.{madeBy, callAfter, offer, offering, onOffer,
 use Rattle.run.specs.Rows.{waiters}
 use Rattle.run.specs.Book.{Book, acts, allEnter, ends, raisers, passes, finishes}
 use Rattle.run.specs.Run.{noted}
+use Rattle.run.proofs.Links.{none-after}
 
 -- on a sound bench, a turn of a good station with a good offer is refused 12 or 13 or is the table's row
 turn-is-step : (w : Bench) (i kind a b : ℕ) → sound w ≡ true → badStation w i ≡ false → badOffer kind a b ≡ false
@@ -73,16 +75,19 @@ next-mine p i (suc m) =
     rw t (inr (rw e t, omega arith, omega arith)))
     (λ f. rw f (⊎-elim (λ z. inl z) (λ k. inr (k .0, omega (arith, k .1), k .2)) (next-mine p (suc i) m)))
 
-pub mine-after : (table : List ℕ) (i c : ℕ) → c ≤ records table
+pub mine-after : (table : List ℕ) (i c : ℕ)
     → (callAfter table i c ≡ 0) ⊎ ((callOf table (callAfter table i c) .station ≡ i) × (callAfter table i c ≤ records table))
 unfolding callAfter
-mine-after table i c h =
+mine-after table i c =
     let f = firstFrom (madeBy table i) c (records table - c) in
-    ⊎-elim (λ z. inl z)
-    (λ k.
-    let e : suc (f - 1) ≡ f = omega (arith, k .2) in
-    inr (rw e at (eqb-true (callOf table (suc (f - 1)) .station) i (k .0)), omega (arith, k .1)))
-    (next-mine (madeBy table i) c (records table - c))
+    elim (decLe c (records table)) [
+      | yes h ↦ ⊎-elim (λ z. inl z)
+          (λ k.
+          let e : suc (f - 1) ≡ f = omega (arith, k .2) in
+          inr (rw e at (eqb-true (callOf table (suc (f - 1)) .station) i (k .0)), omega (arith, k .1)))
+          (next-mine (madeBy table i) c (records table - c))
+      | no h ↦ inl (none-after table i c (omega arith))
+    ]
 
 -- those that wait are those that lose
 module _ (w : Bench) (wait : List ℕ) (i : ℕ) (t : Station) (seen : (j : ℕ) → j < 33 → getD wait j 0 ≡ waits (stationAt w j)) where
