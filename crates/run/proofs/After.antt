@@ -3,7 +3,7 @@ use mathlib.Core.Path.{_≡_, refl, _∙_, sym, ap}
 use mathlib.Core.Logic.{_⊎_, inl, inr, ⊎-elim}
 use mathlib.Core.Bool.{Bool, true, false}
 use mathlib.Core.List.{List, [], _∷_}
-use Prim.Native.Nat.{ℕ, _<_, _≤_}
+use Prim.Native.Nat.{ℕ, _+_, _<_, _≤_}
 use native.Mathlib.Omega.{arith}
 use native.Mathlib.Decide.{ℕ-discrete}
 use lib.Dec.{eqb}
@@ -20,7 +20,7 @@ use Rattle.runfile.specs.Layout.{records, callOf}
 use Rattle.run.specs.declared.Tally.{Tally}
 use Rattle.run.specs.Calls.{callAfter, waits}
 use Rattle.run.specs.Rows.{CallsWithin, Fits}
-use Rattle.run.specs.Book.{Book, acts, allEnter, ends, bookOf}
+use Rattle.run.specs.Book.{Book, acts, allEnter, bookOf}
 use Rattle.run.specs.Run.{noted}
 use Rattle.run.specs.Drive.{Rows}
 use Rattle.run.proofs.Points.{within-set}
@@ -33,10 +33,17 @@ record Leaves (i c d : ℕ) (b b′ : Book) : Type 0 where
   latest : (b′ .latest ≡ b .latest) ⊎ (b′ .latest ≡ set (b .latest) i c)
   own : length (b′ .own) ≡ length (b .own)
   told : length (b′ .told) ≡ length (b .told)
+  idle : b′ .idle ≤ b .idle + 1
+  begun : b′ .begun ≤ b .begun + 1
+  ended : b′ .ended ≤ b .ended + 1
 
 acts-leaves : (rests : Bool) (i c d turns : ℕ) (b : Book) → Leaves i c d b (acts rests i c d turns b)
-acts-leaves true i c d turns b = record { upcoming = inr refl; latest = inr refl; own = length-set (b .own) c turns; told = refl }
-acts-leaves false i c d turns b = record { upcoming = inl refl; latest = inl refl; own = length-set (b .own) c turns; told = refl }
+acts-leaves true i c d turns b = record { upcoming = inr refl; latest = inr refl; own = length-set (b .own) c turns; told = refl; idle = omega arith; begun = omega arith; ended = omega arith }
+acts-leaves false i c d turns b = record { upcoming = inl refl; latest = inl refl; own = length-set (b .own) c turns; told = refl; idle = omega arith; begun = omega arith; ended = omega arith }
+
+acts-ended : (rests : Bool) (i c d turns : ℕ) (b : Book) → acts rests i c d turns b .ended ≡ b .ended
+acts-ended true i c d turns b = refl
+acts-ended false i c d turns b = refl
 
 -- points change neither
 enter-leaves : {i c d : ℕ} {b b′ : Book} (turn : ℕ) (js : List ℕ) → Leaves i c d b b′ → Leaves i c d b (allEnter turn js b′)
@@ -47,22 +54,32 @@ enter-leaves {i} {c} {d} {b} {b′} turn js l =
       latest = ⊎-elim (λ q. inl (ap (λ z. z .latest) e ∙ q)) (λ q. inr (ap (λ z. z .latest) e ∙ q)) (l .latest);
       own = ap (λ z. length (z .own)) e ∙ l .own;
       told = ap (λ z. length (z .told)) e ∙ l .told;
+      idle = omega (arith, ap (λ z. z .idle) e, l .idle);
+      begun = omega (arith, ap (λ z. z .begun) e, l .begun);
+      ended = omega (arith, ap (λ z. z .ended) e, l .ended);
     }
-
-ends-leaves : {i c d : ℕ} {b b′ : Book} (result : ℕ) → Leaves i c d b b′ → Leaves i c d b (ends c result b′)
-ends-leaves {i} {c} {d} {b} {b′} result l = record { upcoming = l .upcoming; latest = l .latest; own = l .own; told = length-set (b′ .told) c _ ∙ l .told }
 
 noted-leaves : (table : List ℕ) (w : Bench) (turn i c own : ℕ) (x : Answer) (b : Book) → Leaves i c (callAfter table i c) b (noted table w turn i c own x b)
 unfolding noted
-noted-leaves table w turn i c own Idle b = record { upcoming = inl refl; latest = inl refl; own = refl; told = refl }
+noted-leaves table w turn i c own Idle b = record { upcoming = inl refl; latest = inl refl; own = refl; told = refl; idle = omega arith; begun = omega arith; ended = omega arith }
 noted-leaves table w turn i c own Going b =
     let t = stationAt w i in
     enter-leaves turn (points oneWord (stationAt w) (w .n) i (t .place) (w .v) t Going) (acts-leaves (eqb (num (t .place)) 0) i c (callAfter table i c) own b)
 noted-leaves table w turn i c own (Ended result took) b =
     let t = stationAt w i in
-    ends-leaves result
-    (enter-leaves turn (points oneWord (stationAt w) (w .n) i (t .place) (w .v) t (Ended result took)) (acts-leaves (eqb (num (t .place)) 0) i c (callAfter table i c) took b))
-noted-leaves table w turn i c own (Refused number) b = record { upcoming = inl refl; latest = inl refl; own = refl; told = refl }
+    let js = points oneWord (stationAt w) (w .n) i (t .place) (w .v) t (Ended result took) in
+    let a = acts (eqb (num (t .place)) 0) i c (callAfter table i c) took b in
+    let l = enter-leaves turn js (acts-leaves (eqb (num (t .place)) 0) i c (callAfter table i c) took b) in
+    record {
+      upcoming = l .upcoming;
+      latest = l .latest;
+      own = l .own;
+      told = length-set (allEnter turn js a .told) c (result + 1) ∙ l .told;
+      idle = l .idle;
+      begun = l .begun;
+      ended = omega (arith, sym (ap (λ z. z .ended) (enter-all turn js a)), acts-ended (eqb (num (t .place)) 0) i c (callAfter table i c) took b);
+    }
+noted-leaves table w turn i c own (Refused number) b = record { upcoming = inl refl; latest = inl refl; own = refl; told = refl; idle = omega arith; begun = omega arith; ended = omega arith }
 
 module _ (w w′ : Bench) (table next head latest wait own told point list head′ latest′ own′ told′ point′ list′ : List ℕ) (s s′ : Tally)
     (turn i c turns : ℕ) (x : Answer) (ht : Station)
@@ -122,3 +139,6 @@ module _ (w w′ : Bench) (table next head latest wait own told point list head�
         waiters = length-set wait i (waits ht) ∙ rows .waiters;
         waiting = waiting-still;
       }
+
+  pub counts-after : (s′ .idle ≤ s .idle + 1) × (s′ .begun ≤ s .begun + 1) × (s′ .ended ≤ s .ended + 1)
+  counts-after = (omega (arith, ap (λ z. z .idle) book, left .idle), omega (arith, ap (λ z. z .begun) book, left .begun), omega (arith, ap (λ z. z .ended) book, left .ended))
