@@ -3,3 +3,4 @@ pub mod Points
 pub mod Books
 pub mod Steps
 pub mod After
+pub mod Loop
