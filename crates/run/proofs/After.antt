@@ -2,7 +2,7 @@
 use mathlib.Core.Path.{_≡_, refl, _∙_, sym, ap}
 use mathlib.Core.Logic.{_⊎_, inl, inr, ⊎-elim}
 use mathlib.Core.Bool.{Bool, true, false}
-use mathlib.Core.List.{List, [], _∷_}
+use mathlib.Core.List.{List, []}
 use Prim.Native.Nat.{ℕ, _+_, _<_, _≤_}
 use native.Mathlib.Omega.{arith}
 use native.Mathlib.Decide.{ℕ-discrete}
@@ -19,7 +19,7 @@ use Rattle.bench.specs.Record.{stationAt}
 use Rattle.runfile.specs.Layout.{records, callOf}
 use Rattle.run.specs.declared.Tally.{Tally}
 use Rattle.run.specs.Calls.{callAfter, waits}
-use Rattle.run.specs.Rows.{CallsWithin, Fits}
+use Rattle.run.specs.Rows.{Fits}
 use Rattle.run.specs.Book.{Book, acts, allEnter, bookOf}
 use Rattle.run.specs.Run.{noted}
 use Rattle.run.specs.Drive.{Rows}

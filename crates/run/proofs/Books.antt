@@ -1,11 +1,11 @@
 -- The book and its rows: points entered in the rows are entered in the book. Assumes nothing.
-use mathlib.Core.Path.{_≡_, refl, _∙_, sym, ap}
+use mathlib.Core.Path.{_≡_, refl, ap}
 use mathlib.Core.Bool.{Bool, true, false, cond}
 use mathlib.Core.List.{List, [], _∷_}
 use Prim.Native.Nat.{ℕ, _<_}
-use lib.ListN.{getD, length}
+use lib.ListN.{length}
 use lib.Seq.{getD-set-same}
-use Rattle.run.specs.Rows.{Rows, enterCall, allEnterCalls, callsOf}
+use Rattle.run.specs.Rows.{Rows, allEnterCalls, callsOf}
 use Rattle.run.specs.Book.{Book, acts, enters, allEnter}
 
 abbrev pub rowsOf : Book → Rows

@@ -1,9 +1,9 @@
 -- The run loop's invariant, and that one more turn keeps it. Assumes nothing.
 use mathlib.Core.Path.{_≡_, refl, _∙_, sym, ap}
-use mathlib.Core.Logic.{_⊎_, ⊎-elim}
-use mathlib.Core.Bool.{Bool, true, false, cond}
+use mathlib.Core.Logic.{⊎-elim}
+use mathlib.Core.Bool.{true, cond}
 use mathlib.Core.List.{List, [], _∷_}
-use Prim.Native.Nat.{ℕ, suc, _+_, _<_, _≤_}
+use Prim.Native.Nat.{ℕ, _+_, _<_, _≤_}
 use native.Mathlib.Omega.{arith}
 use native.Mathlib.Numerals.{add-one}
 use lib.Dec.{eqb}
@@ -14,6 +14,7 @@ use denote.Enum.Declared.{tagOf}
 use Rattle.method.proofs.Answer.{the-type}
 use Rattle.rules.proofs.Facts.{either-way}
 use Rattle.method.specs.declared.Place.{Place}
+use Rattle.method.specs.declared.Place.the-variants.{Rest, At11, At12, At13, At14, At15, At16, At18, At19, At20}
 use Rattle.method.specs.declared.Call.{Call}
 use Rattle.method.specs.declared.Station.{Station}
 use Rattle.method.specs.declared.Answer.{Answer}
@@ -23,19 +24,21 @@ use Rattle.method.specs.Record as Answers
 use Rattle.bench.specs.declared.Bench.{Bench}
 use Rattle.bench.specs.declared.Moved.{Moved}
 use Rattle.bench.specs.Record.{stationAt}
-use Rattle.bench.specs.Sound.{sound}
 use Rattle.bench.specs.Reach.{reaching, moveOf}
 use Rattle.bench.specs.Promise.{turnBy}
-use Rattle.bench.proofs.Sounds.{facts}
+use Rattle.bench.specs.Sound.{sound, countLimit}
+use Rattle.bench.proofs.Sounds.{Stands, facts, ready-at}
 use Rattle.bench.proofs.Bridge.{taken, putBack}
 use Rattle.bench.proofs.Promised.{turn-sound}
 use Rattle.runfile.specs.Layout.{records, callOf}
 use Rattle.run.specs.declared.Tally.{Tally}
+use Rattle.run.specs.declared.Errand.{Errand}
+use Rattle.run.specs.declared.Went.{Went}
 use Rattle.run.specs.Calls.{callAfter, offer, offering, onOffer, callFor, errandOf, leftOf, waits}
-use Rattle.run.specs.Rows.{Fits}
-use Rattle.run.specs.Book.{Book, bookOf, passes, finishes}
+use Rattle.run.specs.Rows.{CallsWithin, Fits}
+use Rattle.run.specs.Book.{Book, bookOf, Holds, Passed, passes, finishes}
 use Rattle.run.specs.Run.{Run, noted, stepRun, runFrom}
-use Rattle.run.specs.Drive.{noTally, Good, Rows}
+use Rattle.run.specs.Drive.{Good, Rows}
 use Rattle.run.proofs.Steps.{moved-turn, acting, ended-noted, going-noted}
 use Rattle.run.proofs.After.{rows-after, counts-after}
 
@@ -57,18 +60,33 @@ one-more : (table turns : List ℕ) (s : Run) (k : ℕ) → k < length turns →
 unfolding runFrom
 one-more table turns s k h = ap (runFrom table s) (drop-cons turns k 0 h) ∙ ap (λ j. runFrom table (stepRun table s (getD turns k 0)) (drop j turns)) (sym (add-one k))
 
-pub none-more : (table turns : List ℕ) (s : Run) (k : ℕ) → length turns ≤ k → k ≤ length turns → runFrom table s (drop k turns) ≡ s
+-- after the last turn it is the run
+pub all-turned : (n : ℕ) (start : Run) (table turns next : List ℕ) (w : Bench) (head latest wait own told point list : List ℕ) (s : Tally) (k : ℕ)
+    → Kept n start table turns next w head latest wait own told point list s k → length turns ≤ k
+    → state w (length turns) (bookOf head latest own told point list s) ≡ runFrom table start turns
 unfolding runFrom
-none-more table turns s k h g =
-    let e : k ≡ length turns = omega arith in
-    ap (runFrom table s) (ap (λ j. drop j turns) e ∙ drop-length turns)
+all-turned n start table turns next w head latest wait own told point list s k kept h =
+    let e : length turns ≡ k = omega (arith, kept .count) in
+    ap (λ j. state w j (bookOf head latest own told point list s)) e
+    ∙ sym (ap (runFrom table (state w k (bookOf head latest own told point list s))) (ap (λ j. drop j turns) (sym e) ∙ drop-length turns)) ∙ kept .run
+
+-- the station of a saved claim is one of the bench
+saved : (p : Place) (n : ℕ) (t : Station) → Stands countLimit n p t → t .saw .pid ≤ n
+saved Rest n t k = omega arith
+saved At11 n t k = omega arith
+saved At12 n t k = omega arith
+saved At13 n t k = omega arith
+saved At14 n t k = omega arith
+saved At15 n t k = omega arith
+saved At16 n t k = omega arith
+saved At18 n t k = omega arith
+saved At19 n t k = omega arith
+saved At20 n t k = omega arith
 
 module _ (n : ℕ) (start : Run) (table turns next : List ℕ) (w : Bench) (head latest wait own told point list : List ℕ) (s : Tally) (k : ℕ)
     (kept : Kept n start table turns next w head latest wait own told point list s k) (more : k < length turns) (good : Good n table turns)
-    (after : (c : ℕ) → 0 < c → c ≤ records table → getD next c 0 ≡ callAfter table (callOf table c .station) c) where
-  abbrev i : ℕ
-  i = getD turns k 0
-
+    (after : (c : ℕ) → 0 < c → c ≤ records table → getD next c 0 ≡ callAfter table (callOf table c .station) c)
+    (i : ℕ) (is : i ≡ getD turns k 0) where
   abbrev t : Station
   t = stationAt w i
 
@@ -85,10 +103,10 @@ module _ (n : ℕ) (start : Run) (table turns next : List ℕ) (w : Bench) (head
   b = bookOf head latest own told point list s
 
   pub low : 1 ≤ i
-  low = good .turn k more .0
+  low = rw is (good .turn k more .0)
 
   pub high : i ≤ w .n
-  high = rw (kept .same) (good .turn k more .1)
+  high = rw (is, kept .same) (good .turn k more .1)
 
   pub few : w .n < 33
   few = omega (arith, facts w (kept .isSound) .head .0 .1 .0)
@@ -101,6 +119,37 @@ module _ (n : ℕ) (start : Run) (table turns next : List ℕ) (w : Bench) (head
       either-way (eqb (num p) 0)
       (λ e. rw e (⊎-elim (λ z. omega arith) (λ m. omega (arith, m .1, good .calls)) (kept .rows .mine i inside)))
       (λ e. rw e (kept .rows .within i))
+
+  abbrev e : Errand
+  e = errandOf p (k + 1) i d l
+
+  holds : Holds e next head latest own
+  holds = record {
+    station = inside;
+    call = call-small;
+    nexts = kept .rows .nexts;
+    heads = kept .rows .heads;
+    latests = kept .rows .latests;
+    owns = kept .rows .owns;
+  }
+
+  fits : Fits point list (s .listed) (k + 1)
+  fits = record {
+    points = kept .rows .fits .points;
+    places = kept .rows .fits .places;
+    all = kept .rows .fits .all;
+    now = omega arith;
+  }
+
+  -- what the book asks of a turn that did not end its call
+  pub may-go : Holds e next head latest own × (Fits point list (s .listed) (k + 1) × (CallsWithin latest × ((length wait ≡ 33) × ((s .begun < 65536) × ((n ≤ 32) × ((t .saw .pid ≤ 32) × (s .idle < 65536)))))))
+  may-go =
+      let q : t .saw .pid ≤ w .n = saved p (w .n) t (facts w (kept .isSound) .station i inside .stands) in
+      (holds, (fits, (kept .rows .within, (kept .rows .waiters, (omega (arith, kept .begun, good .few), (omega (arith, few, kept .same), (omega (arith, q, few), omega (arith, kept .idle, good .few))))))))
+
+  -- and of one that ended it
+  pub may-end : Holds e next head latest own × (Fits point list (s .listed) (k + 1) × (CallsWithin latest × ((s .begun < 65536) × ((s .ended < 65536) × (length told ≡ 1025)))))
+  may-end = (holds, (fits, (kept .rows .within, (omega (arith, kept .begun, good .few), (omega (arith, kept .ended, good .few), kept .rows .tolds)))))
 
   module _ (to : ℕ) (o : Call) (m : Moved) (reaches : to ≡ reaching p i t) (offers : o ≡ offer table (cond (eqb (num p) 0) (callFor p d l) 0))
       (moves : m ≡ moveOf (taken w i to) (o .kind) (o .a) (o .b)) where
@@ -161,5 +210,36 @@ module _ (n : ℕ) (start : Run) (table turns next : List ℕ) (w : Bench) (head
           idle = omega (arith, c .0, kept .idle);
           begun = omega (arith, c .1, kept .begun);
           ended = omega (arith, c .2, kept .ended);
-          run = ap (λ z. runFrom table z (drop (k + 1) turns)) (stepped (bookOf head′ latest′ own′ told′ point′ list′ s′) e) ∙ sym (one-more table turns (state w k b) k more) ∙ kept .run;
+          run = ap (λ z. runFrom table z (drop (k + 1) turns)) (stepped (bookOf head′ latest′ own′ told′ point′ list′ s′) e) ∙ ap (λ j. runFrom table (stepRun table (state w k b) j) (drop (k + 1) turns)) is ∙ sym (one-more table turns (state w k b) k more) ∙ kept .run;
         }
+
+    -- what the station waits for fits a word
+    pub s-small : ht .s ≤ 4294967292
+    s-small =
+        let q : sound w′ ≡ true = ap (λ z. sound (z .bench)) turned ∙ turn-sound w (offering table i (onOffer p d)) (kept .isSound) in
+        let r = ready-at w′ i q inside in
+        let z : stationAt w′ i ≡ ht = getD-set-same (w .stations) i ht (resting 0) (omega (arith, inside, kept .rows .stations)) in
+        rw z at (r .1 .1 .0)
+
+    -- a turn that did not end its call, by what the book then holds
+    pub after-going : (errand : Errand) (went : Went) (r : Tally) (waiting : ℕ) (head′ latest′ own′ point′ list′ : List ℕ)
+        → OneOf (0 ∷ 1 ∷ 3 ∷ []) (tagOf the-type (m .answer)) → errand ≡ e → went ≡ leftOf t (w .v) (ht .own) n → waiting ≡ waits ht
+        → Passed (m .answer) errand went s r next head latest wait own point list head′ latest′ own′ point′ list′ → Fits point′ list′ (r .listed) (errand .turn)
+        → Kept n start table turns next w′ head′ latest′ (set wait i waiting) own′ told point′ list′ r (k + 1)
+    unfolding Passed
+    after-going errand went r waiting head′ latest′ own′ point′ list′ f errand-is left-is waits-is passed fit =
+        rw waits-is
+        (kept-next head′ latest′ own′ told point′ list′ r
+        (passed told ∙ ap (λ x. passes (m .answer) x went next wait b) errand-is
+        ∙ ap (λ x. passes (m .answer) e x next wait b) (left-is ∙ ap (leftOf t (w .v) (ht .own)) (sym (kept .same))) ∙ noted-went f)
+        (rw errand-is at fit))
+
+    -- and one that ended it
+    pub after-end : (errand : Errand) (result took waiting : ℕ) (r : Tally) (head′ latest′ own′ told′ point′ list′ : List ℕ)
+        → m .answer ≡ Ended result took → errand ≡ e → waiting ≡ waits ht
+        → bookOf head′ latest′ own′ told′ point′ list′ r ≡ finishes errand (record { result = result; own = took }) next b → Fits point′ list′ (r .listed) (errand .turn)
+        → Kept n start table turns next w′ head′ latest′ (set wait i waiting) own′ told′ point′ list′ r (k + 1)
+    after-end errand result took waiting r head′ latest′ own′ told′ point′ list′ x-is errand-is waits-is finished fit =
+        rw waits-is
+        (kept-next head′ latest′ own′ told′ point′ list′ r
+        (finished ∙ ap (λ x. finishes x (record { result = result; own = took }) next b) errand-is ∙ noted-end result took x-is) (rw errand-is at fit))

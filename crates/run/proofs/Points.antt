@@ -8,7 +8,7 @@ use native.Mathlib.Numerals.{add-one}
 use native.Mathlib.Nat.{le-of-suc-le-suc, not-suc-le-zero}
 use borrow.Author.Tests.{eq-eqb, ne-eqb}
 use lib.Dec.{eqb}
-use lib.ListN.{length, getD, set, take, length-set}
+use lib.ListN.{length, getD, set, length-set}
 use lib.Seq.{take-suc-set}
 use Rattle.run.specs.Rows.{Rows, rows, enterCall, allEnterCalls, callsOf, waiters, pointed, CallsWithin, Fits}
 use Rattle.rules.proofs.Facts.{either-way}

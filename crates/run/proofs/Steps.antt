@@ -1,16 +1,15 @@
 -- One turn of the run loop against one turn of the run: the offer, the bench, and the book. Assumes nothing.
 use mathlib.Core.Path.{_≡_, refl, _∙_, sym, ap}
 use mathlib.Core.Logic.{_⊎_, inl, inr, ⊎-elim}
-use mathlib.Core.Bool.{Bool, true, false, cond, not, _&&_, true≢false, false≢true}
+use mathlib.Core.Bool.{Bool, true, false, cond, not, _&&_, false≢true}
 use mathlib.Core.List.{List, [], _∷_, _++_}
 use Prim.Native.Nat.{ℕ, zero, suc, _+_, _-_, _<_, _≤_}
 use native.Mathlib.Omega.{arith}
 use native.Mathlib.Decide.{decLe}
-use borrow.Author.Tests.{ltb-true, ltb-false, lt-leb, le-leb, le-ltb, eqb-true, eq-eqb, ne-eqb}
-use lib.Dec.{leb, ltb, eqb}
-use lib.ListN.{length, getD}
-use Rattle.rules.proofs.Facts.{either-way, and-left, and-right}
-use Rattle.card.specs.declared.Halves.{Halves}
+use borrow.Author.Tests.{ltb-true, ltb-false, lt-leb, le-leb, le-ltb, eqb-true, ne-eqb}
+use lib.Dec.{ltb, eqb}
+use lib.ListN.{getD}
+use Rattle.rules.proofs.Facts.{either-way, and-right}
 use Rattle.method.specs.declared.Place.{Place}
 use Rattle.method.specs.declared.Place.the-variants.{Rest, At11, At12, At13, At14, At15, At16, At18, At19, At20}
 use Rattle.method.specs.declared.Station.{Station}
@@ -29,10 +28,7 @@ use Rattle.bench.proofs.Sounds.{ready-at}
 use Rattle.bench.proofs.Bridge.{taken, putBack, step-law}
 use Rattle.runfile.specs.First.{firstFrom}
 use Rattle.runfile.specs.Layout.{records, callOf}
-use Rattle.run.specs.declared.Errand.{Errand}
-use Rattle.run.specs.declared.Went.{Went}
-use Rattle.run.specs.declared.Finish.{Finish}
-use Rattle.run.specs.Calls.{madeBy, callAfter, offer, offering, onOffer, callFor, errandOf, waits, leftOf, Linked}
+use Rattle.run.specs.Calls.{madeBy, callAfter, offer, offering, onOffer, callFor, errandOf, waits, leftOf}
 use Rattle.run.specs.Rows.{waiters}
 use Rattle.run.specs.Book.{Book, acts, allEnter, ends, raisers, passes, finishes}
 use Rattle.run.specs.Run.{noted}

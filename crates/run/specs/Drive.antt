@@ -14,7 +14,7 @@ use Rattle.run.specs.declared.Tally.{Tally}
 use Rattle.run.specs.declared.Drove.{Drove}
 use Rattle.run.specs.Calls.{offer, waits, Linked}
 use Rattle.run.specs.Rows.{CallsWithin, Fits}
-use Rattle.run.specs.Book.{Book, bookOf}
+use Rattle.run.specs.Book.{bookOf}
 use Rattle.run.specs.Run.{runFrom}
 
 abbrev pub noTally : Tally

@@ -1,5 +1,4 @@
 -- A run: the step table folded over the turns of a file, with the book that is kept of it. Assumes nothing.
-use mathlib.Core.Bool.{cond}
 use mathlib.Core.List.{List, [], _∷_, _++_}
 use Prim.Native.Nat.{ℕ, zero, suc, _+_}
 use lib.Dec.{eqb}

@@ -1,10 +1,10 @@
 -- The loop keeps: those that wait among the stations passed so far are listed.
 use borrow.Author.Needs.{needs}
-use mathlib.Core.Path.{_≡_, refl, _∙_, sym, ap}
-use Prim.Native.Nat.{_+_, _-_, _<_, _≤_}
+use mathlib.Core.Path.{_≡_, _∙_, sym, ap}
+use Prim.Native.Nat.{_+_, _-_, _≤_}
 use native.Mathlib.Omega.{arith}
 use native.Mathlib.Numerals.{add-one}
-use lib.ListN.{length, getD}
+use lib.ListN.{getD}
 use Rattle.run.specs.Rows.{rows, enterCall, Fits}
 use Rattle.run.proofs.Points.{raised, none-yet, waits, passes, winner-first}
 use Rattle.run.proofs.book.raise.Statement.{statement}

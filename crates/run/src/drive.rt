@@ -1,0 +1,95 @@
+// The run loop: it keeps its own bench in place, takes what a turn reaches, moves it and puts it back, and keeps the book.
+// It assumes a sound bench, good turns and good calls, and keeps the bench sound, so that no turn tests it.
+ghost use mathlib.Core.Path.{_≡_};
+ghost use Rattle.run.specs.Drive.{Ready, Driven};
+use crate::Drove;
+use crate::Finish;
+use crate::Tally;
+use crate::book::finished;
+use crate::book::went;
+use crate::calls::errand;
+use crate::calls::left;
+use crate::calls::offered;
+use crate::calls::waiting;
+use bench::Bench;
+use bench::Reach;
+use bench::reaches;
+use method::Answer;
+
+fn wide(b: u8) -> u32
+    ensures { λ r. ⌜ r ≡ b ⌝ }
+{
+    b as u32
+}
+
+pub(crate) fn drive(
+    mut w: Bench,
+    table: &[u8],
+    turns: &[u8],
+    next: &[u32],
+    head: &mut [u32],
+    latest: &mut [u32],
+    wait: &mut [u32],
+    own: &mut [u32],
+    told: &mut [u64],
+    point: &mut [u32],
+    list: &mut [u32],
+) -> Drove
+    requires { ⌜ Ready w (now table) (now turns) (now next) (now head) (now latest) (now wait) (now own) (now told) (now point) (now list) ⌝ }
+    ensures { λ r. ⌜ Driven w (now (table .entry)) (now (turns .entry)) (now (head .entry)) (now (latest .entry)) (now (own .entry)) (now (told .entry)) (now (point .entry)) (now (list .entry)) r (now (head .exit)) (now (latest .exit)) (now (own .exit)) (now (told .exit)) (now (point .exit)) (now (list .exit)) ⌝ }
+{
+    let n = w.n;
+    let mut s = Tally {
+        idle: 0,
+        begun: 0,
+        ended: 0,
+        listed: 0,
+    };
+    let mut k: usize = 0;
+    while k < turns.len() {
+        let i = wide(turns[k]);
+        let at = i as usize;
+        k = k + 1;
+        let t = w.stations[at];
+        let e = errand(t, k as u32, i, head[at], latest[at]);
+        let o = offered(table, e);
+        let to = reaches(t, i) as usize;
+        let v = w.v;
+        let p = w.p;
+        let a = w.a[to];
+        let r = w.r[to];
+        let g = Reach {
+            id: i,
+            v,
+            p,
+            a,
+            r,
+            station: t,
+        };
+        let m = g.moved(o.kind, o.a, o.b);
+        let h = m.reach;
+        let hv = h.v;
+        let hp = h.p;
+        let ha = h.a;
+        let hr = h.r;
+        let ht = h.station;
+        w.v = hv;
+        w.p = hp;
+        w.a[to] = ha;
+        w.r[to] = hr;
+        w.stations[at] = ht;
+        let waits = waiting(ht);
+        let x = m.answer;
+        let Answer::Ended { result, own: took } = x else {
+            let made = ht.own;
+            let l = left(t, v, made, n);
+            s = went(s, x, e, l, next, head, latest, wait, own, point, list);
+            wait[at] = waits;
+            continue;
+        };
+        let f = Finish { result, own: took };
+        s = finished(s, e, f, next, head, latest, own, told, point, list);
+        wait[at] = waits;
+    }
+    Drove { bench: w, tally: s }
+}
