@@ -16,7 +16,7 @@ use Rattle.method.specs.declared.Station.{Station}
 use Rattle.method.specs.Record.{num}
 use Rattle.method.specs.Table.{agrees}
 use Rattle.method.specs.World.{World}
-use Rattle.method.proofs.Inv.{Contends, Saw, StandsIn, Kept}
+use Rattle.method.proofs.Kept.{Contends, Saw, StandsIn, Kept}
 use Rattle.method.proofs.Stay.{RStep, keeps, wins, Raises, WordStep, still, opens, not-behind}
 
 -- station j's turn; z is its word, v and p that word's registers

@@ -1,7 +1,12 @@
 pub mod Upd
-pub mod Inv
+pub mod Watched
+pub mod Kept
 pub mod Stay
 pub mod Seen
 pub mod Moves
 pub mod Effects
-pub mod Turns
+pub mod Silent
+pub mod Ends
+pub mod Raise
+pub mod Turn
+pub mod Inv

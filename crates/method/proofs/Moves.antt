@@ -10,9 +10,13 @@ use Rattle.method.specs.declared.Call.{Call}
 use Rattle.method.specs.declared.Station.{Station}
 use Rattle.method.specs.Record.{resting}
 use Rattle.method.specs.Table.{sees, goes, begun, grown}
-use Rattle.method.proofs.Inv.{Claimed, Called, Awaits, Got, Stands}
+use Rattle.method.proofs.Kept.{Claimed, Called, Awaits, Got, Stands}
 
 module _ (n : ℕ) (v : Halves) (p : Claim) (a r : ℕ → Halves) (i : ℕ) (t : Station) where
+  -- at rest the registers of the word do not matter
+  pub any-word : (v′ : Halves) (p′ : Claim) → Stands n v p a r Rest i t → Stands n v′ p′ a r Rest i t
+  any-word v′ p′ h = search needs
+
   pub to11 : (o : Call) → Called n v i (begun o (v .first) (t .c)) → Stands n v p a r Rest i t → Stands n v p a r At11 i (begun o (v .first) (t .c))
   to11 o d h = search needs
 

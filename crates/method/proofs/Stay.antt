@@ -12,11 +12,25 @@ use Rattle.rules.proofs.Facts.{either-way, and-left, and-right, and-both}
 use Rattle.card.specs.declared.Halves.{Halves}
 use Rattle.card.specs.declared.Claim.{Claim}
 use Rattle.method.specs.declared.Place.{Place}
+use Rattle.method.specs.declared.Place.the-variants.{Rest, At11, At12, At13, At14, At15, At16, At18, At19, At20}
 use Rattle.method.specs.declared.Station.{Station}
 use Rattle.method.specs.Record.{num}
 use Rattle.method.specs.World.{World, putRegisters, putStation}
 use Rattle.method.proofs.Upd.{upd-all}
-use Rattle.method.proofs.Inv.{Claimed, Contends, At, Called, Awaits, Saw, Got, behind, StandsIn, Holds, Kept}
+use Rattle.method.proofs.Kept.{Claimed, Contends, At, Called, Awaits, Saw, Got, behind, StandsIn, Holds, Kept}
+
+-- a station is at rest or in a call
+pub rest-or-call : (q : Place) → (num q ≡ 0) ⊎ ((11 ≤ num q) × (num q ≤ 20))
+rest-or-call Rest = inl refl
+rest-or-call At11 = inr (omega arith)
+rest-or-call At12 = inr (omega arith)
+rest-or-call At13 = inr (omega arith)
+rest-or-call At14 = inr (omega arith)
+rest-or-call At15 = inr (omega arith)
+rest-or-call At16 = inr (omega arith)
+rest-or-call At18 = inr (omega arith)
+rest-or-call At19 = inr (omega arith)
+rest-or-call At20 = inr (omega arith)
 
 -- a fact at the places k to m, where q is one of them
 pub at-get : {X : Type 0} (k m : ℕ) (q : Place) → k ≤ num q → num q ≤ m → At k m q X → X
@@ -30,6 +44,9 @@ at-map {X} {Y} k m q f h =
     let high = leb-true (num q) m (and-right (leb k (num q)) (leb (num q) m) e) in
     rw e (f low high (at-get k m q low high h)))
     (λ e. rw e tt)
+
+pub from-get : {X : Type 0} (k : ℕ) (q : Place) → k ≤ num q → At k 20 q X → X
+from-get k q low h = at-get k 20 q low (⊎-elim (λ e. omega arith) (λ b. b .1) (rest-or-call q)) h
 
 -- R has the count of a station past 12
 pub not-behind : (q : Place) → 13 ≤ num q → behind q ≡ 0
@@ -160,7 +177,7 @@ module _ (n : ℕ) (w : World) (v′ : ℕ → Halves) (p′ : ℕ → Claim) (a
       calls (still e f) d = rw e d
       calls (opens e o) d = rw e d
       calls (raises l f) d =
-          record { low = d .low; high = d .high; even = d .even; begun = omega (arith, l, d .begun); differ = d .differ; finds = λ e. absurd (omega (arith, l, d .begun)) }
+          record { low = d .low; high = d .high; sets = d .sets; even = d .even; begun = omega (arith, l, d .begun); differ = d .differ; finds = λ e. absurd (omega (arith, l, d .begun)) }
 
       waits : OfWord z → OfR i → t .s ≤ w .v z .first → Awaits (w .v z) (w .p z) (w .r i) i (t .s) → Awaits (v′ z) (p′ z) (r′ i) i (t .s)
       waits (raises l f) y d x = inr (inl (omega (arith, l)))
@@ -181,27 +198,24 @@ module _ (n : ℕ) (w : World) (v′ : ℕ → Halves) (p′ : ℕ → Claim) (a
             returns = rw own-r (h .returns);
             called = at-map 11 20 q (λ _ _ x. calls (s .word z) x) (h .called);
             value = rw own-a (h .value);
-            awaits = at-map 13 20 q (λ low high x. waits (s .word z) (s .r i) (at-get 11 20 q (omega arith) high (h .called) .begun) x) (h .awaits);
+            awaits = at-map 13 20 q (λ low _ x. waits (s .word z) (s .r i) (from-get 11 q (omega arith) (h .called) .begun) x) (h .awaits);
             claims = at-map 14 20 q (λ _ _ x. omega (arith, grown-p z (s .word z))) (h .claims);
             closes = at-map 15 20 q (λ _ _ x. omega (arith, grown-p z (s .word z))) (h .closes);
             saw = at-map 16 20 q (λ _ _ x. saw-stays x) (h .saw);
             got =
                 at-map 18 19 q
                 (λ low high x.
-                let y = claimed (omega arith) (omega arith) (x .even) in
+                let y = from-get 16 q (omega arith) (h .saw) .claimed (x .even) in
                 record { even = x .even; agreed = x .agreed; new = value-a z c (x .even) y (t .entry .second) (s .a (c .pid)) (x .new); old = entry-stays z c (x .even) y (t .entry) x (s .word z) })
                 (h .got);
             tells =
                 at-map 19 19 q
                 (λ low high x.
                 let even = at-get 18 19 q (omega arith) (omega arith) (h .got) .even in
-                told-r z c even (claimed (omega arith) (omega arith) even) (s .r (c .pid)) x)
+                told-r z c even (from-get 16 q (omega arith) (h .saw) .claimed even) (s .r (c .pid)) x)
                 (h .tells);
             past = at-map 20 20 q (λ _ _ x. omega (arith, grown-v z (s .word z))) (h .past);
           }
-        where
-          claimed : 16 ≤ num q → num q ≤ 20 → c .seq % 2 ≡ 0 → Claimed (w .v z) (w .p z) (w .a (c .pid)) (w .r (c .pid)) c
-          claimed low high = at-get 16 20 q low high (h .saw) .claimed
 
     grown-r : (i : ℕ) → OfR i → w .r i .first ≤ r′ i .first
     grown-r i (keeps e) = rw e (omega arith)

@@ -19,19 +19,19 @@ use Rattle.method.specs.declared.Station.{Station}
 use Rattle.method.specs.Record.{num}
 use Rattle.method.specs.Table.{sees, goes, grown, agrees, after16, row11, row12, row13, row14, row15, row16, row18, row19}
 use Rattle.method.specs.World.{World, upd, putRegisters, putStation, onWorld}
-use Rattle.method.specs.Watch.{Event, watched, Good}
+use Rattle.method.specs.Watch.{Event}
 use Rattle.method.proofs.Upd.{upd-same, upd-other, upd-all, upd-id}
-use Rattle.method.proofs.Inv.{Contends, StandsIn, Stands, Kept}
+use Rattle.method.proofs.Kept.{Contends, StandsIn, Stands, Kept}
 use Rattle.method.proofs.Stay.{AStep, RStep, keeps, grows, WordStep, still, Step, stands-stays, moved}
 use Rattle.method.proofs.Seen.{seen, late-phase, phase-stays, silent}
+use Rattle.method.proofs.Watched.{Leads}
 use Rattle.method.proofs.Moves.{to12, to13, to14, to15, to16, to18, past18, to19, to20}
 use Rattle.method.proofs.Effects.{effect-13, effect-14, effect-16, effect-18, effect-19}
 
--- the events fit what was watched before, and leave the watcher of a world that keeps the invariant
+-- the events lead from the watcher of w to that of a world that keeps the invariant too
 pub record Next (n : ℕ) (w : World) (es : List Event) (w′ : World) : Type 0 where
-  pub good : Good (seen w) es
+  pub leads : Leads (seen w) es (seen w′)
   pub kept : Kept n w′
-  pub shows : watched (seen w) es ≡ seen w′
 
 -- a max-write leaves at least what it writes, and no more than was there where that was more
 claim-low : (p : Claim) (f i c : ℕ) → f ≤ maxClaim p f i c .seq
@@ -56,15 +56,14 @@ module _ (n : ℕ) (w : World) (k : Kept n w) (j : ℕ) where
   abbrev Silent : World → Type 0
   Silent w′ = Next n w [] w′
 
-  at : (q : Place) → t .place ≡ q → StandsIn n w q j t
+  pub at : (q : Place) → t .place ≡ q → StandsIn n w q j t
   at q e = subst (λ (q : Place). StandsIn n w q j t) e (k .stations j)
 
   -- registers as they were
-  none : Step n w (w .v) (w .p) (w .a) (w .r)
+  pub none : Step n w (w .v) (w .p) (w .a) (w .r)
   none = record { a = λ i. keeps refl; r = λ i. keeps refl; word = λ z. still refl refl }
 
   pub silent-11 : t .place ≡ At11 → Silent (row11 onWorld w j t .world)
-  unfolding Good watched
   silent-11 e =
       let h = at At11 e in
       let new = halves (t .c + 1) (t .call .b) in
@@ -77,16 +76,14 @@ module _ (n : ℕ) (w : World) (k : Kept n w) (j : ℕ) where
         word = λ z. still refl refl;
       } in
       record {
-        good = tt;
         kept =
             moved n w (w .v) (w .p) a′ (w .r) k s j (grown t) (λ i ne. (upd-other (w .a) j new i ne, refl))
             (to12 n (w .v z) (w .p z) (w .a) (w .r) j t a′ (ap (λ (x : Halves). x .first) same) (ap (λ (x : Halves). x .second) same) h)
             (λ o. absurd (omega (arith, o .far, ap num e)));
-        shows = silent n w (w .v) (w .p) a′ (w .r) k s (λ _. refl) j (grown t) (λ _ _. refl) (rw e);
+        leads = silent n w (w .v) (w .p) a′ (w .r) k s (λ _. refl) j (grown t) (λ _ _. refl) (rw e);
       }
 
   pub silent-12 : t .place ≡ At12 → Silent (row12 onWorld w j t .world)
-  unfolding Good watched
   silent-12 e =
       let h = at At12 e in
       let new = halves (t .c) 0 in
@@ -100,12 +97,11 @@ module _ (n : ℕ) (w : World) (k : Kept n w) (j : ℕ) where
       } in
       let others : (i : ℕ) → (i ≡ j → ⊥) → r′ i .first ≡ w .r i .first = λ i ne. ap (λ (x : Halves). x .first) (upd-other (w .r) j new i ne) in
       record {
-        good = tt;
         kept =
             moved n w (w .v) (w .p) (w .a) r′ k s j (goes t At13) (λ i ne. (refl, others i ne))
             (to13 n (w .v z) (w .p z) (w .a) (w .r) j t r′ (ap (λ (x : Halves). x .first) same) (ap (λ (x : Halves). x .second) same) h)
             (λ o. absurd (omega (arith, o .far, ap num e)));
-        shows = silent n w (w .v) (w .p) (w .a) r′ k s (λ _. refl) j (goes t At13) others (rw (e, same));
+        leads = silent n w (w .v) (w .p) (w .a) r′ k s (λ _. refl) j (goes t At13) others (rw (e, same));
       }
 
   -- from 13 on A stays, and so do the counts of R
@@ -115,12 +111,10 @@ module _ (n : ℕ) (w : World) (k : Kept n w) (j : ℕ) where
 
     goes-on : (q : Place) (saw : Claim) (e : Halves) → 13 ≤ num (t .place) → 13 ≤ num q → StandsIn n (putRegisters (w .v) p′ (w .a) r′ w) q j (sees t q saw e)
         → Silent (putStation j (sees t q saw e) (putRegisters (w .v) p′ (w .a) r′ w))
-    unfolding Good watched
     goes-on q saw e low far h =
         record {
-          good = tt;
           kept = moved n w (w .v) p′ (w .a) r′ k s j (sees t q saw e) (λ i _. (refl, counts i)) h (λ o. record { far = far; version = o .version; count = o .count });
-          shows =
+          leads =
               silent n w (w .v) p′ (w .a) r′ k s (λ _. refl) j (sees t q saw e) (λ i _. counts i)
               (late-phase q (t .place) z (w .v z) (r′ j) t far low ∙ phase-stays n w (w .v) p′ (w .a) r′ k s (λ _. refl) j (counts j));
         }

@@ -1,0 +1,91 @@
+-- The invariant of the method, over the registers and the stations' records alone. Assumes nothing.
+use mathlib.Core.Path.{_≡_}
+use mathlib.Core.Logic.{_⊎_}
+use mathlib.Core.Bool.{cond, _&&_}
+use Prim.Native.Nat.{ℕ, _+_, _%_, _≤_, _<_}
+use lib.Dec.{leb, eqb}
+use Rattle.rules.specs.Test.{When}
+use Rattle.card.specs.declared.Halves.{Halves}
+use Rattle.card.specs.declared.Claim.{Claim}
+use Rattle.method.specs.declared.Place.{Place}
+use Rattle.method.specs.declared.Station.{Station}
+use Rattle.method.specs.Record.{num}
+use Rattle.method.specs.World.{World}
+
+-- c is a copy of P with an even version: it names the call that wins, or won, that version. a and r are A and R of its station
+pub record Claimed (v : Halves) (p : Claim) (a r : Halves) (c : Claim) : Type 0 where
+  pub latest : (c .seq < p .seq) ⊎ (c ≡ p)
+  pub counted : c .c ≤ r .first
+  pub told : c .seq ≤ v .first → r .first ≡ c .c → r .second ≡ 1
+  pub value : c .seq ≡ v .first → a .first ≡ c .c → a .second ≡ v .second
+
+-- the station that an open P names is in the contest; t is its record
+pub record Contends (v : Halves) (p : Claim) (t : Station) : Type 0 where
+  pub far : 13 ≤ num (t .place)
+  pub version : t .s ≡ v .first
+  pub count : t .c ≡ p .c
+
+-- the facts at the places k to m
+abbrev pub At : ℕ → ℕ → Place → Type 0 → Type 0
+At k m q X = When (leb k (num q) && leb (num q) m) X
+
+-- in a call of the version s
+pub record Called (n : ℕ) (v : Halves) (i : ℕ) (t : Station) : Type 0 where
+  pub low : 1 ≤ i
+  pub high : i ≤ n
+  pub sets : t .call .kind ≡ 0 → ⊥
+  pub even : t .s % 2 ≡ 0
+  pub begun : t .s ≤ v .first
+  pub differ : t .call .a ≡ t .call .b → ⊥
+  pub finds : t .s ≡ v .first → t .call .a ≡ v .second
+
+-- a call that R does not call lost is past its point, or is the one that P names
+abbrev pub Awaits : Halves → Claim → Halves → ℕ → ℕ → Type 0
+Awaits v p r i s = (r .second ≡ 0) ⊎ ((s < v .first) ⊎ ((p .seq ≡ s + 2) × (p .pid ≡ i)))
+
+-- what was read at 15
+pub record Saw (v : Halves) (p : Claim) (a r : Halves) (s : ℕ) (c : Claim) : Type 0 where
+  pub from : s + 2 ≤ c .seq
+  pub upto : c .seq ≤ p .seq
+  pub claimed : c .seq % 2 ≡ 0 → Claimed v p a r c
+
+-- what was read at 16, where the test passed; a is A of the claim's station
+pub record Got (v a : Halves) (c : Claim) (e : Halves) : Type 0 where
+  pub even : c .seq % 2 ≡ 0
+  pub agreed : c .c ≡ e .first
+  pub new : a .first ≡ c .c → a .second ≡ e .second
+  pub old : c .seq ≡ v .first → e .second ≡ v .second
+
+-- at 12 the count has grown and R has yet to follow
+abbrev pub behind : Place → ℕ
+behind q = cond (eqb (num q) 12) 1 0
+
+-- station i with the record t at place q; v and p are the registers of its word
+pub record Stands (n : ℕ) (v : Halves) (p : Claim) (a r : ℕ → Halves) (q : Place) (i : ℕ) (t : Station) : Type 0 where
+  pub count : a i .first ≡ t .c
+  pub returns : r i .first + behind q ≡ t .c
+  pub called : At 11 20 q (Called n v i t)
+  pub value : At 12 20 q (a i .second ≡ t .call .b)
+  pub awaits : At 13 20 q (Awaits v p (r i) i (t .s))
+  pub claims : At 14 20 q (t .s + 1 ≤ p .seq)
+  pub closes : At 15 20 q (t .s + 2 ≤ p .seq)
+  pub saw : At 16 20 q (Saw v p (a (t .saw .pid)) (r (t .saw .pid)) (t .s) (t .saw))
+  pub got : At 18 19 q (Got v (a (t .saw .pid)) (t .saw) (t .entry))
+  pub tells : At 19 19 q (r (t .saw .pid) .first ≡ t .saw .c → r (t .saw .pid) .second ≡ 1)
+  pub past : At 20 20 q (t .s + 2 ≤ v .first)
+
+-- word z, whose registers are v and p
+pub record Holds (w : World) (z : ℕ) (v : Halves) (p : Claim) : Type 0 where
+  pub even : v .first % 2 ≡ 0
+  pub low : v .first ≤ p .seq
+  pub high : p .seq ≤ v .first + 2
+  pub word : v .first < p .seq → w .word (p .pid) ≡ z
+  pub contends : v .first < p .seq → Contends v p (w .st (p .pid))
+  pub claimed : p .seq % 2 ≡ 0 → 0 < p .seq → Claimed v p (w .a (p .pid)) (w .r (p .pid)) p
+
+abbrev pub StandsIn : ℕ → World → Place → ℕ → Station → Type 0
+StandsIn n w q i t = Stands n (w .v (w .word i)) (w .p (w .word i)) (w .a) (w .r) q i t
+
+pub record Kept (n : ℕ) (w : World) : Type 0 where
+  pub words : (z : ℕ) → Holds w z (w .v z) (w .p z)
+  pub stations : (i : ℕ) → StandsIn n w (w .st i .place) i (w .st i)
