@@ -1,4 +1,4 @@
--- What the operations at 13, 14, 16, 18 and 19 do to the registers (the effect lemmas). Assumes nothing.
+-- The effect lemmas: what the operations at 13, 14, 16, 18 and 19 do to the registers. Assumes nothing.
 use mathlib.Core.Path.{_≡_, refl, sym, ap, _∙_}
 use mathlib.Core.Logic.{⊎-elim}
 use mathlib.Core.Bool.{false, true≢false}
@@ -16,11 +16,21 @@ use Rattle.method.specs.declared.Station.{Station}
 use Rattle.method.specs.Record.{num}
 use Rattle.method.specs.Table.{agrees}
 use Rattle.method.specs.World.{World}
-use Rattle.method.proofs.Kept.{Contends, Saw, StandsIn, Kept}
-use Rattle.method.proofs.Stay.{RStep, keeps, wins, Raises, WordStep, still, opens, not-behind}
+use Rattle.method.proofs.Places.{not-behind}
+use Rattle.method.proofs.Kept.{Contends, Saw, Kept, stands-at}
+use Rattle.method.proofs.Step.{RStep, Raises, PStep, keeps, wins, opens}
 
--- station j's turn; z is its word, v and p that word's registers
-module _ (n : ℕ) (w : World) (k : Kept n w) (j : ℕ) where
+-- c, which was read at 15 from the P of word z, is P as it stands, and the call that it names is in the open contest
+pub record Latest (w : World) (z : ℕ) (c : Claim) : Type 0 where
+  pub same : c ≡ w .p z
+  pub full : c .seq ≡ w .v z .first + 2
+  pub word : w .word (c .pid) ≡ z
+  pub contends : Contends (w .v z) c (w .st (c .pid))
+  pub count : w .a (c .pid) .first ≡ c .c
+  pub returns : w .r (c .pid) .first ≡ c .c
+
+-- a turn of station j; z is its word, v and p that word's registers, c and e what it has read
+module _ {n : ℕ} {w : World} (k : Kept n w) (j : ℕ) where
   abbrev t : Station
   t = w .st j
 
@@ -37,15 +47,15 @@ module _ (n : ℕ) (w : World) (k : Kept n w) (j : ℕ) where
   c = t .saw
 
   -- 13 claims the version that V has, or does nothing
-  pub effect-13 : t .place ≡ At13 → StandsIn n w At13 j t → WordStep w z v v p (maxClaim p (t .s + 1) j (t .c))
-  effect-13 e h =
+  pub effect-13 : t .place ≡ At13 → PStep w z v p (maxClaim p (t .s + 1) j (t .c))
+  effect-13 e =
       let g = k .words z in
-      let d = h .called in
+      let d = stands-at k j e .called in
       either-way (leb (p .seq) (t .s + 1))
       (λ b.
       let le = leb-true (p .seq) (t .s + 1) b in
       rw b
-      (opens refl
+      (opens
       (record {
         before = omega (arith, d);
         grows = le;
@@ -54,18 +64,18 @@ module _ (n : ℕ) (w : World) (k : Kept n w) (j : ℕ) where
         word = refl;
         contends = record { far = omega (arith, ap num e); version = omega (arith, d, g); count = refl };
       })))
-      (λ b. rw b (still refl refl))
+      (λ b. rw b (keeps refl))
 
   -- 14 closes the contest for the version that V has, or does nothing
-  pub effect-14 : StandsIn n w At14 j t → WordStep w z v v p (halfClaim p (t .s + 2))
-  effect-14 h =
+  pub effect-14 : t .place ≡ At14 → PStep w z v p (halfClaim p (t .s + 2))
+  effect-14 e =
       let g = k .words z in
-      let d = h .called in
-      let claims = h .claims in
+      let d = stands-at k j e .called in
+      let claims = stands-at k j e .claims in
       elim (decLe (t .s + 2) (p .seq)) [
-        | yes l ↦ let e : max (p .seq) (t .s + 2) ≡ p .seq = omega arith in still refl (ap {B = Claim} (λ (x : ℕ). claim x (p .pid) (p .c)) e)
+        | yes l ↦ let high : max (p .seq) (t .s + 2) ≡ p .seq = omega arith in keeps (ap {B = Claim} (λ (x : ℕ). claim x (p .pid) (p .c)) high)
         | no l ↦ let o = g .contends (omega (arith, d, g)) in
-            opens refl
+            opens
             (record {
               before = omega (arith, d);
               grows = omega arith;
@@ -76,16 +86,8 @@ module _ (n : ℕ) (w : World) (k : Kept n w) (j : ℕ) where
             })
       ]
 
-  -- what was read at 15 is P as it stands, where its version is above V's: the call that it names is in the open contest
-  pub record Latest : Type 0 where
-    pub same : c ≡ p
-    pub full : p .seq ≡ v .first + 2
-    pub word : w .word (c .pid) ≡ z
-    pub contends : Contends v c (w .st (c .pid))
-    pub count : w .a (c .pid) .first ≡ c .c
-    pub returns : w .r (c .pid) .first ≡ c .c
-
-  pub latest : Saw v p (w .a (c .pid)) (w .r (c .pid)) (t .s) c → c .seq % 2 ≡ 0 → v .first < c .seq → Latest
+  -- an even version above V's is that of the open contest
+  pub latest : Saw v p (w .a (c .pid)) (w .r (c .pid)) (t .s) c → c .seq % 2 ≡ 0 → v .first < c .seq → Latest w z c
   latest h even up =
       let g = k .words z in
       let same : c ≡ p = ⊎-elim (λ l. absurd (omega (arith, g))) (λ e. e) (h .claimed even .latest) in
@@ -101,24 +103,25 @@ module _ (n : ℕ) (w : World) (k : Kept n w) (j : ℕ) where
       }
 
   -- at 16 the test fails only for a version that V has left behind
-  pub effect-16 : StandsIn n w At16 j t → agrees c (w .a (c .pid)) ≡ false → t .s + 2 ≤ v .first
-  effect-16 h differs =
+  pub effect-16 : t .place ≡ At16 → agrees c (w .a (c .pid)) ≡ false → t .s + 2 ≤ v .first
+  effect-16 e differs =
       let g = k .words z in
-      let d = h .called in
-      let b = h .saw in
+      let d = stands-at k j e .called in
+      let b = stands-at k j e .saw in
       elim (decLt (t .s) (v .first)) [
         | yes l ↦ omega (arith, d, g)
         | no l ↦ let even : c .seq % 2 ≡ 0 = omega (arith, d, g, b .from, b .upto) in
             let o = latest b even (omega (arith, d, b .from)) in
-            absurd (true≢false (sym (and-both (eq-eqb (c .seq % 2) 0 even) (eq-eqb (c .c) (w .a (c .pid) .first) (sym (o .count)))) ∙ differs))
+            let passes = and-both (eq-eqb (c .seq % 2) 0 even) (eq-eqb (c .c) (w .a (c .pid) .first) (sym (o .count))) in
+            absurd (true≢false (sym passes ∙ differs))
       ]
 
   -- 18 writes R for the call that P names, or changes nothing
-  pub effect-18 : StandsIn n w At18 j t
+  pub effect-18 : t .place ≡ At18
       → RStep (c .pid) (w .v (w .word (c .pid))) (w .p (w .word (c .pid))) (w .r (c .pid)) (maxWrite (w .r (c .pid)) (t .entry .first) 1)
-  effect-18 h =
-      let b = h .saw in
-      let d = h .got in
+  effect-18 e =
+      let b = stands-at k j e .saw in
+      let d = stands-at k j e .got in
       let f = b .claimed (d .even) in
       either-way (leb (w .r (c .pid) .first) (t .entry .first))
       (λ x.
@@ -127,24 +130,23 @@ module _ (n : ℕ) (w : World) (k : Kept n w) (j : ℕ) where
       rw x
       (elim (decLe (c .seq) (v .first)) [
         | yes l ↦ let one = f .told l (omega (arith, d .agreed)) in keeps (λ i. halves (sym same i) (sym one i))
-        | no l ↦ let o = latest b (d .even) (omega arith) in wins (sym same) refl (rw (o .word) (o .full)) (rw (o .word) (sym (ap (λ (x : Claim). x .pid) (o .same))))
+        | no l ↦ let o = latest b (d .even) (omega arith) in rw (o .word, ← o .same) (wins (sym same) refl (o .full) refl)
       ]))
       (λ x. rw x (keeps refl))
 
-  -- 19 leaves V as it was where its version is not above V's
-  pub effect-19 : StandsIn n w At19 j t → c .seq ≤ v .first → maxWrite v (c .seq) (t .entry .second) ≡ v
-  effect-19 h low =
+  -- 19 leaves V as it was where the version read is not above V's
+  pub effect-19 : t .place ≡ At19 → c .seq ≤ v .first → maxWrite v (c .seq) (t .entry .second) ≡ v
+  effect-19 e low =
       either-way (leb (v .first) (c .seq))
       (λ x.
       let same : c .seq ≡ v .first = omega (arith, leb-true (v .first) (c .seq) x) in
-      let value = h .got .old same in
+      let value = stands-at k j e .got .old same in
       rw x (λ i. halves (same i) (value i)))
       (λ x. rw x)
 
   -- and raises V for the call that P names where it is
-  pub effect-raise : StandsIn n w At19 j t → v .first < c .seq → Raises w v (halves (c .seq) (t .entry .second)) p
-  effect-raise h up =
+  pub effect-raise : t .place ≡ At19 → v .first < c .seq → Raises w v (halves (c .seq) (t .entry .second)) p
+  effect-raise e up =
+      let h = stands-at k j e in
       let o = latest (h .saw) (h .got .even) up in
-      let told = h .tells (o .returns) in
-      let value = h .got .new (o .count) in
-      rw (← o .same) (record { version = refl; next = rw (o .same) (o .full); told = told; count = o .count; value = value })
+      rw (← o .same) (record { version = refl; next = o .full; told = h .tells (o .returns); count = o .count; value = h .got .new (o .count) })

@@ -11,7 +11,7 @@ use Rattle.method.specs.Watch.{Free, Watcher, watching, watched, Good}
 use Rattle.method.specs.Events.{shown}
 use Rattle.method.specs.Promise.{EveryRunIsGood}
 use Rattle.method.proofs.Kept.{Kept}
-use Rattle.method.proofs.Stay.{rest-or-call}
+use Rattle.method.proofs.Places.{rest-or-call}
 use Rattle.method.proofs.Seen.{past-phase, open-phase, seen}
 use Rattle.method.proofs.Turn.{turns, runs}
 
@@ -42,7 +42,7 @@ start n x = record { kept = fresh-kept n x; watcher = refl }
 module _ {n : ℕ} {w : World} {m : Watcher} (h : Inv n w m) where
   pub turn : (u : Turn) → 1 ≤ u .station → u .station ≤ n → Good m (shown n w u) × Inv n (turnOf w u .world) (watched m (shown n w u))
   turn u low high =
-      let f = turns n w (h .kept) u low high in
+      let f = turns (h .kept) u low high in
       subst⁻¹ (λ (m : Watcher). Good m (shown n w u) × Inv n (turnOf w u .world) (watched m (shown n w u))) (h .watcher)
       (f .leads .good, record { kept = f .kept; watcher = f .leads .ends })
 
@@ -70,5 +70,5 @@ module _ {n : ℕ} {w : World} {m : Watcher} (h : Inv n w m) where
 pub every-run-is-good : EveryRunIsGood
 unfolding EveryRunIsGood
 every-run-is-good n x us h =
-    let r = runs n us (fresh x) (fresh-kept n x) h in
+    let r = runs us (fresh-kept n x) h in
     record { good = r .leads .good; values = λ z. sym (ap (λ (m : Watcher). m .words z) (r .leads .ends)) }

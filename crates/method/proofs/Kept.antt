@@ -1,16 +1,14 @@
 -- The invariant of the method, over the registers and the stations' records alone. Assumes nothing.
-use mathlib.Core.Path.{_≡_}
+use mathlib.Core.Path.{_≡_, subst}
 use mathlib.Core.Logic.{_⊎_}
-use mathlib.Core.Bool.{cond, _&&_}
 use Prim.Native.Nat.{ℕ, _+_, _%_, _≤_, _<_}
-use lib.Dec.{leb, eqb}
-use Rattle.rules.specs.Test.{When}
 use Rattle.card.specs.declared.Halves.{Halves}
 use Rattle.card.specs.declared.Claim.{Claim}
 use Rattle.method.specs.declared.Place.{Place}
 use Rattle.method.specs.declared.Station.{Station}
 use Rattle.method.specs.Record.{num}
 use Rattle.method.specs.World.{World}
+use Rattle.method.proofs.Places.{At, From, behind}
 
 -- c is a copy of P with an even version: it names the call that wins, or won, that version. a and r are A and R of its station
 pub record Claimed (v : Halves) (p : Claim) (a r : Halves) (c : Claim) : Type 0 where
@@ -24,10 +22,6 @@ pub record Contends (v : Halves) (p : Claim) (t : Station) : Type 0 where
   pub far : 13 ≤ num (t .place)
   pub version : t .s ≡ v .first
   pub count : t .c ≡ p .c
-
--- the facts at the places k to m
-abbrev pub At : ℕ → ℕ → Place → Type 0 → Type 0
-At k m q X = When (leb k (num q) && leb (num q) m) X
 
 -- in a call of the version s
 pub record Called (n : ℕ) (v : Halves) (i : ℕ) (t : Station) : Type 0 where
@@ -56,23 +50,19 @@ pub record Got (v a : Halves) (c : Claim) (e : Halves) : Type 0 where
   pub new : a .first ≡ c .c → a .second ≡ e .second
   pub old : c .seq ≡ v .first → e .second ≡ v .second
 
--- at 12 the count has grown and R has yet to follow
-abbrev pub behind : Place → ℕ
-behind q = cond (eqb (num q) 12) 1 0
-
 -- station i with the record t at place q; v and p are the registers of its word
 pub record Stands (n : ℕ) (v : Halves) (p : Claim) (a r : ℕ → Halves) (q : Place) (i : ℕ) (t : Station) : Type 0 where
   pub count : a i .first ≡ t .c
   pub returns : r i .first + behind q ≡ t .c
-  pub called : At 11 20 q (Called n v i t)
-  pub value : At 12 20 q (a i .second ≡ t .call .b)
-  pub awaits : At 13 20 q (Awaits v p (r i) i (t .s))
-  pub claims : At 14 20 q (t .s + 1 ≤ p .seq)
-  pub closes : At 15 20 q (t .s + 2 ≤ p .seq)
-  pub saw : At 16 20 q (Saw v p (a (t .saw .pid)) (r (t .saw .pid)) (t .s) (t .saw))
+  pub called : From 11 q (Called n v i t)
+  pub value : From 12 q (a i .second ≡ t .call .b)
+  pub awaits : From 13 q (Awaits v p (r i) i (t .s))
+  pub claims : From 14 q (t .s + 1 ≤ p .seq)
+  pub closes : From 15 q (t .s + 2 ≤ p .seq)
+  pub saw : From 16 q (Saw v p (a (t .saw .pid)) (r (t .saw .pid)) (t .s) (t .saw))
   pub got : At 18 19 q (Got v (a (t .saw .pid)) (t .saw) (t .entry))
   pub tells : At 19 19 q (r (t .saw .pid) .first ≡ t .saw .c → r (t .saw .pid) .second ≡ 1)
-  pub past : At 20 20 q (t .s + 2 ≤ v .first)
+  pub past : From 20 q (t .s + 2 ≤ v .first)
 
 -- word z, whose registers are v and p
 pub record Holds (w : World) (z : ℕ) (v : Halves) (p : Claim) : Type 0 where
@@ -89,3 +79,7 @@ StandsIn n w q i t = Stands n (w .v (w .word i)) (w .p (w .word i)) (w .a) (w .r
 pub record Kept (n : ℕ) (w : World) : Type 0 where
   pub words : (z : ℕ) → Holds w z (w .v z) (w .p z)
   pub stations : (i : ℕ) → StandsIn n w (w .st i .place) i (w .st i)
+
+-- what is known of a station where it stands
+pub stands-at : {n : ℕ} {w : World} → Kept n w → (i : ℕ) {q : Place} → w .st i .place ≡ q → StandsIn n w q i (w .st i)
+stands-at {n} {w} k i {q} e = subst (λ (q : Place). StandsIn n w q i (w .st i)) e (k .stations i)

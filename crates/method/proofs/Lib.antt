@@ -1,6 +1,8 @@
 pub mod Upd
+pub mod Places
 pub mod Watched
 pub mod Kept
+pub mod Step
 pub mod Stay
 pub mod Seen
 pub mod Moves

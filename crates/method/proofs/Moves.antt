@@ -12,7 +12,7 @@ use Rattle.method.specs.Record.{resting}
 use Rattle.method.specs.Table.{sees, goes, begun, grown}
 use Rattle.method.proofs.Kept.{Claimed, Called, Awaits, Got, Stands}
 
-module _ (n : ℕ) (v : Halves) (p : Claim) (a r : ℕ → Halves) (i : ℕ) (t : Station) where
+module _ {n : ℕ} {v : Halves} {p : Claim} {a r : ℕ → Halves} {i : ℕ} {t : Station} where
   -- at rest the registers of the word do not matter
   pub any-word : (v′ : Halves) (p′ : Claim) → Stands n v p a r Rest i t → Stands n v′ p′ a r Rest i t
   any-word v′ p′ h = search needs
@@ -20,11 +20,11 @@ module _ (n : ℕ) (v : Halves) (p : Claim) (a r : ℕ → Halves) (i : ℕ) (t 
   pub to11 : (o : Call) → Called n v i (begun o (v .first) (t .c)) → Stands n v p a r Rest i t → Stands n v p a r At11 i (begun o (v .first) (t .c))
   to11 o d h = search needs
 
-  pub to12 : (a′ : ℕ → Halves) → a′ i .first ≡ t .c + 1 → a′ i .second ≡ t .call .b → Stands n v p a r At11 i t → Stands n v p a′ r At12 i (grown t)
-  to12 a′ x y h = search needs
+  pub to12 : {a′ : ℕ → Halves} → a′ i .first ≡ t .c + 1 → a′ i .second ≡ t .call .b → Stands n v p a r At11 i t → Stands n v p a′ r At12 i (grown t)
+  to12 {a′} c d h = search needs
 
-  pub to13 : (r′ : ℕ → Halves) → r′ i .first ≡ t .c → r′ i .second ≡ 0 → Stands n v p a r At12 i t → Stands n v p a r′ At13 i (goes t At13)
-  to13 r′ x y h = let z : Awaits v p (r′ i) i (t .s) = inl y in search needs
+  pub to13 : {r′ : ℕ → Halves} → r′ i .first ≡ t .c → r′ i .second ≡ 0 → Stands n v p a r At12 i t → Stands n v p a r′ At13 i (goes t At13)
+  to13 {r′} c d h = let x : Awaits v p (r′ i) i (t .s) = inl d in search needs
 
   pub to14 : t .s + 1 ≤ p .seq → Stands n v p a r At13 i t → Stands n v p a r At14 i (goes t At14)
   to14 d h = search needs
@@ -35,8 +35,8 @@ module _ (n : ℕ) (v : Halves) (p : Claim) (a r : ℕ → Halves) (i : ℕ) (t 
   pub to16 : (p .seq % 2 ≡ 0 → Claimed v p (a (p .pid)) (r (p .pid)) p) → Stands n v p a r At15 i t → Stands n v p a r At16 i (sees t At16 p (t .entry))
   to16 d h = search needs
 
-  pub to18 : (e : Halves) → Got v (a (t .saw .pid)) (t .saw) e → Stands n v p a r At16 i t → Stands n v p a r At18 i (sees t At18 (t .saw) e)
-  to18 e d h = search needs
+  pub to18 : {e : Halves} → Got v (a (t .saw .pid)) (t .saw) e → Stands n v p a r At16 i t → Stands n v p a r At18 i (sees t At18 (t .saw) e)
+  to18 {e} d h = search needs
 
   pub past18 : (e : Halves) → t .s + 2 ≤ v .first → Stands n v p a r At16 i t → Stands n v p a r At20 i (sees t At20 (t .saw) e)
   past18 e d h = search needs

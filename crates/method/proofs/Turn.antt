@@ -16,13 +16,13 @@ use Rattle.method.specs.Events.{eventsAt, eventsOf, shown, after, shownB
 use Rattle.method.specs.Promise.{Among}
 use Rattle.method.proofs.Watched.{leads-none, leads-on}
 use Rattle.method.proofs.Kept.{Kept}
-use Rattle.method.proofs.Seen.{seen}
-use Rattle.method.proofs.Silent.{Next, silent-11, silent-12, silent-13, silent-14, silent-15, silent-16, silent-18, silent-19}
+use Rattle.method.proofs.Seen.{seen, Next}
+use Rattle.method.proofs.Silent.{silent-11, silent-12, silent-13, silent-14, silent-15, silent-16, silent-18, silent-19}
 use Rattle.method.proofs.Ends.{rests, ends-at-20}
 use Rattle.method.proofs.Raise.{raised}
 
-module _ (n : ℕ) where
-  module _ (w : World) (k : Kept n w) (u : Turn) (low : 1 ≤ u .station) (high : u .station ≤ n) where
+module _ {n : ℕ} where
+  module _ {w : World} (k : Kept n w) (u : Turn) (low : 1 ≤ u .station) (high : u .station ≤ n) where
     abbrev i : ℕ
     i = u .station
 
@@ -31,30 +31,30 @@ module _ (n : ℕ) where
 
     by-place : (q : Place) → t .place ≡ q → Next n w (eventsAt q (w .word) (w .st) n (w .v (w .word i)) u (turnAt q w u .answer)) (turnAt q w u .world)
     unfolding row points
-    by-place Rest e = rests n w k u e low high
-    by-place At11 e = silent-11 n w k i e
-    by-place At12 e = silent-12 n w k i e
-    by-place At13 e = silent-13 n w k i e
-    by-place At14 e = silent-14 n w k i e
-    by-place At15 e = silent-15 n w k i e
-    by-place At16 e = silent-16 n w k i e
-    by-place At18 e = silent-18 n w k i e
+    by-place Rest e = rests k u e low high
+    by-place At11 e = silent-11 k i e
+    by-place At12 e = silent-12 k i e
+    by-place At13 e = silent-13 k i e
+    by-place At14 e = silent-14 k i e
+    by-place At15 e = silent-15 k i e
+    by-place At16 e = silent-16 k i e
+    by-place At18 e = silent-18 k i e
     by-place At19 e =
         let first = w .v (w .word i) .first in
         let seq = t .saw .seq in
         either-way (ltb first seq)
-        (λ up. let l = ltb-true first seq up in rw (up, le-leb first seq (omega arith), append-nil) (raised n w k i e l))
-        (λ no. rw no (silent-19 n w k i e (ltb-false first seq no)))
-    by-place At20 e = ends-at-20 n w k i e
+        (λ up. let l = ltb-true first seq up in rw (up, le-leb first seq (omega arith), append-nil) (raised k i e l))
+        (λ no. rw no (silent-19 k i e (ltb-false first seq no)))
+    by-place At20 e = ends-at-20 k i e
 
     pub turns : Next n w (shown n w u) (turnOf w u .world)
     unfolding turnOf eventsOf
     turns = by-place (t .place) refl
 
-  pub runs : (us : List Turn) (w : World) → Kept n w → Among n us → Next n w (shownBy n w us) (after w us)
+  pub runs : (us : List Turn) {w : World} → Kept n w → Among n us → Next n w (shownBy n w us) (after w us)
   unfolding shownBy after Among
-  runs [] w k h = record { leads = leads-none (seen w); kept = k }
-  runs (u ∷ us) w k h =
-      let f = turns w k u (h .0) (h .1) in
-      let g = runs us (turnOf w u .world) (f .kept) (h .2) in
+  runs [] {w} k h = record { leads = leads-none (seen w); kept = k }
+  runs (u ∷ us) {w} k h =
+      let f = turns k u (h .0) (h .1) in
+      let g = runs us (f .kept) (h .2) in
       record { leads = leads-on (shown n w u) (shownBy n (turnOf w u .world) us) (f .leads) (g .leads); kept = g .kept }

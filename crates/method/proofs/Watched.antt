@@ -2,7 +2,7 @@
 use mathlib.Core.Path.{_≡_, refl, sym, ap, _∙_, subst, subst⁻¹}
 use mathlib.Core.Bool.{true, false, cond}
 use mathlib.Core.List.{List, [], _∷_, _++_, map, append-nil}
-use Prim.Native.Nat.{ℕ, zero, suc, _≤_, _<_}
+use Prim.Native.Nat.{ℕ, zero, suc, _≤_}
 use native.Mathlib.Omega.{arith}
 use native.Mathlib.Decide.{ℕ-discrete}
 use borrow.Author.Tests.{leb-true, leb-false, le-leb, lt-leb, eq-eqb, ne-eqb}
@@ -12,7 +12,6 @@ use Rattle.card.specs.declared.Claim.{Claim}
 use Rattle.method.specs.declared.Call.{Call}
 use Rattle.method.specs.declared.Station.{Station}
 use Rattle.method.specs.Effect.{loses, losers}
-use Rattle.method.specs.World.{upd}
 use Rattle.method.specs.Watch.{answer, left, Agrees, Phase, Free, Begun, Done, Event, Begin, Point, End, Watcher, putPhase, pointed, watch, watched, Waits, Ends, Fits, Good}
 use Rattle.method.proofs.Upd.{upd-same, upd-other, upd-all, upd-id}
 

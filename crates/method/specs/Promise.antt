@@ -2,8 +2,8 @@
 use mathlib.Core.Path.{_≡_}
 use mathlib.Core.List.{List, [], _∷_}
 use Prim.Native.Nat.{ℕ, _≤_}
-use Rattle.method.specs.World.{World, Turn, fresh}
-use Rattle.method.specs.Watch.{Watcher, watching, watched, Good}
+use Rattle.method.specs.World.{Turn, fresh}
+use Rattle.method.specs.Watch.{watching, watched, Good}
 use Rattle.method.specs.Events.{after, shownBy}
 
 -- every turn is of one of n stations
