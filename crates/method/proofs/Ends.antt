@@ -1,11 +1,11 @@
 -- The rows where a call begins or ends, 2, 5 and 20, lead on. Assumes nothing.
 use mathlib.Core.Path.{_≡_, refl, sym, ap, _∙_, subst, subst⁻¹}
+use mathlib.Core.Bool.{Bool, true, false, cond, not}
 use mathlib.Core.List.{List, [], _∷_}
 use Prim.Native.Nat.{ℕ, _≤_, _<_}
 use native.Mathlib.Omega.{arith}
-use borrow.Author.Tests.{eqb-true, eqb-false, ne-eqb, le-ltb, lt-ltb}
+use borrow.Author.Tests.{eqb-true, eqb-false, ne-eqb, le-ltb, lt-ltb, not-true, not-false}
 use lib.Dec.{eqb}
-use Rattle.rules.proofs.Facts.{either-way}
 use Rattle.method.specs.declared.Place.{Place}
 use Rattle.method.specs.declared.Place.the-variants.{Rest, At20}
 use Rattle.method.specs.declared.Call.{Call}
@@ -102,6 +102,11 @@ module _ {n : ℕ} {w : World} (k : Kept n w) (j : ℕ) where
         kept = moved k (none w) j (resting (t .c)) (λ o. absurd (omega (arith, o .version))) (λ _ _. (refl, refl)) (to-rest h);
       }
 
+-- what holds of what a test chooses, by its two cases
+by-test : {X : Type 0} (P : X → Type 0) (b : Bool) (x y : X) → (b ≡ true → P x) → (b ≡ false → P y) → P (cond b x y)
+by-test P true x y f g = f refl
+by-test P false x y f g = g refl
+
 -- a turn of a station at rest
 module _ {n : ℕ} {w : World} (k : Kept n w) (u : Turn) (e : w .st (u .station) .place ≡ Rest) (low : 1 ≤ u .station) (high : u .station ≤ n) where
   abbrev i : ℕ
@@ -138,27 +143,23 @@ module _ {n : ℕ} {w : World} (k : Kept n w) (u : Turn) (e : w .st (u .station)
   sets : (u .kind ≡ 0 → ⊥) → Shows (row5 onWorld w₁ i (w .st i) (u .kind) (u .a) (u .b))
   unfolding points
   sets changes =
-      either-way (eqb y (u .a))
-      (λ there.
-      let same = eqb-true y (u .a) there in
-      let f = finds y o changes same in
-      rw there
-      (either-way (eqb (u .a) (u .b))
-      (λ equal.
-      let kept = f .0 ∙ sym (eqb-true (u .a) (u .b) equal) ∙ sym same in
-      rw equal (ended (handed (u .kind) 1 y) kept (λ ne. rw (ne-eqb (u .kind) 2 ne) (sym (f .1)))))
-      (λ differ. rw differ (follows (λ x. Begin i x o ∷ []) (goes-past-5 (taken .kept) i o e low high changes same (eqb-false (u .a) (u .b) differ))))))
+      by-test Shows (not (eqb y (u .a))) _ _
       (λ gone.
-      let f = misses y o changes (eqb-false y (u .a) gone) in
-      rw gone (ended (handed (u .kind) 0 y) (f .0) (λ ne. rw (ne-eqb (u .kind) 2 ne) (sym (f .1)))))
+      let f = misses y o changes (eqb-false y (u .a) (not-true (eqb y (u .a)) gone)) in
+      ended (handed (u .kind) 0 y) (f .0) (λ ne. rw (ne-eqb (u .kind) 2 ne) (sym (f .1))))
+      (λ there.
+      let same = eqb-true y (u .a) (not-false (eqb y (u .a)) there) in
+      let f = finds y o changes same in
+      by-test Shows (eqb (u .a) (u .b)) _ _
+      (λ equal.
+      ended (handed (u .kind) 1 y) (f .0 ∙ sym (eqb-true (u .a) (u .b) equal) ∙ sym same) (λ ne. rw (ne-eqb (u .kind) 2 ne) (sym (f .1))))
+      (λ differ. follows (λ x. Begin i x o ∷ []) (goes-past-5 (taken .kept) i o e low high changes same (eqb-false (u .a) (u .b) differ))))
 
   pub rests : Shows (row onWorld Rest w₁ i (w .st i) (u .kind) (u .a) (u .b))
   unfolding row points
   rests =
-      either-way (eqb (u .kind) 3)
-      (λ three. rw three taken)
+      by-test Shows (eqb (u .kind) 3) _ _ (λ none. taken)
       (λ more.
-      rw more
-      (either-way (eqb (u .kind) 0)
-      (λ reads. rw reads (ended y (rw reads) (λ _. rw reads)))
-      (λ no. rw no (sets (eqb-false (u .kind) 0 no)))))
+      by-test Shows (eqb (u .kind) 0) _ _
+      (λ reads. ended y (rw reads) (λ _. rw reads))
+      (λ no. sets (eqb-false (u .kind) 0 no)))

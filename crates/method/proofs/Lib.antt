@@ -1,6 +1,7 @@
 pub mod Upd
-pub mod Places
 pub mod Watched
+pub mod Losers
+pub mod Places
 pub mod Kept
 pub mod Step
 pub mod Stay

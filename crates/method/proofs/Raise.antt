@@ -21,7 +21,8 @@ use Rattle.method.specs.World.{World, upd, putRegisters, putStation}
 use Rattle.method.specs.Watch.{answer, left, Begun, Done, Point, Phase, Watcher, pointed}
 use Rattle.method.proofs.Upd.{upd-same, upd-other, upd-all}
 use Rattle.method.proofs.Places.{rest-or-call, from-get}
-use Rattle.method.proofs.Watched.{finds, misses, leads-to, leads-on, leads-point, Loses, losers-lead}
+use Rattle.method.proofs.Watched.{finds, misses, leads-to, leads-on, leads-point}
+use Rattle.method.proofs.Losers.{Loses, losers-lead}
 use Rattle.method.proofs.Kept.{Called, StandsIn, Kept, stands-at}
 use Rattle.method.proofs.Step.{VStep, Step, keeps, raises}
 use Rattle.method.proofs.Stay.{stands-stays, moved}

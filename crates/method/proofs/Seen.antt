@@ -49,7 +49,8 @@ pub record Next (n : ℕ) (w : World) (es : List Event) (w′ : World) : Type 0 
   pub kept : Kept n w′
 
 -- the registers take a step that leaves V as it was
-module _ {n : ℕ} {w : World} {v′ : ℕ → Halves} {p′ : ℕ → Claim} {a′ r′ : ℕ → Halves} (k : Kept n w) (s : Step w v′ p′ a′ r′) (quiet : (z : ℕ) → v′ z ≡ w .v z) where
+module _ {n : ℕ} {w : World} {v′ : ℕ → Halves} {p′ : ℕ → Claim} {a′ r′ : ℕ → Halves} (k : Kept n w) (s : Step w v′ p′ a′ r′)
+    (quiet : (z : ℕ) → v′ z ≡ w .v z) where
   abbrev w′ : World
   w′ = putRegisters v′ p′ a′ r′ w
 
