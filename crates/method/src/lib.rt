@@ -1,6 +1,7 @@
 // The method of document 001, Algorithm 1: the places where a station can stand, its record, and what a turn answers.
 // The step table over them is in specs/Table, over anything that holds the registers.
 ghost use mathlib.Core.Path.{_≡_};
+ghost use Rattle.method.specs.Promise.{EveryRunIsGood};
 ghost use Rattle.method.specs.Record.{num};
 use card::Claim;
 use card::Halves;
@@ -63,3 +64,8 @@ impl Place {
         }
     }
 }
+
+// Every run, of any number of stations on any words, behaves as the words served one call at a time.
+pub fn every_run_is_good()
+    ensures { λ r. ⌜ EveryRunIsGood ⌝ }
+{}

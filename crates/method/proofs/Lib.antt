@@ -1,0 +1,15 @@
+pub mod Upd
+pub mod Watched
+pub mod Losers
+pub mod Places
+pub mod Kept
+pub mod Step
+pub mod Stay
+pub mod Seen
+pub mod Moves
+pub mod Effects
+pub mod Silent
+pub mod Ends
+pub mod Raise
+pub mod Turn
+pub mod Inv

@@ -1,0 +1,79 @@
+-- The words served one call at a time, and the watcher that follows a run's events: it holds the words, and how far each station's call is. Assumes nothing.
+use mathlib.Core.Path.{_≡_}
+use mathlib.Core.Bool.{cond}
+use mathlib.Core.List.{List, [], _∷_}
+use Prim.Native.Nat.{ℕ}
+use lib.Dec.{eqb}
+use Rattle.method.specs.declared.Call.{Call}
+use Rattle.method.specs.World.{upd}
+
+-- what a word that holds y answers to a call: a read its value, a set or swap whether it found a
+abbrev pub answer : ℕ → Call → ℕ
+answer y o = cond (eqb (o .kind) 0) y (cond (eqb y (o .a)) 1 0)
+
+-- what such a call leaves in the word
+abbrev pub left : ℕ → Call → ℕ
+left y o = cond (eqb (o .kind) 0) y (cond (eqb y (o .a)) (o .b) y)
+
+-- what a call hands back is the word's answer; what a swap hands back is not covered
+abbrev pub Agrees : Call → ℕ → ℕ → Type 0
+Agrees o y result = (o .kind ≡ 2 → ⊥) → result ≡ y
+
+-- a station is in no call; in one of word z that has not had its point; in one that the word has answered y
+pub data Phase : Type 0 where
+  Free : Phase
+  Begun : (z : ℕ) → Call → Phase
+  Done : (z : ℕ) → Call → (y : ℕ) → Phase
+
+-- a station begins a call of word z; its call has its point; its call ends
+pub data Event : Type 0 where
+  Begin : (i z : ℕ) → Call → Event
+  Point : (i : ℕ) → Event
+  End : (i result : ℕ) → Event
+
+pub record Watcher : Type 0 where
+  pub words : ℕ → ℕ
+  pub phase : ℕ → Phase
+
+-- all stations free, and the words as given
+abbrev pub watching : (ℕ → ℕ) → Watcher
+watching x = record { words = x; phase = λ i. Free }
+
+abbrev pub putPhase : ℕ → Phase → Watcher → Watcher
+putPhase i f m = record { words = m .words; phase = upd (m .phase) i f }
+
+-- station i's call, in the phase f, has its point: its word serves it
+abbrev pub pointed : ℕ → Watcher → Phase → Watcher
+pointed i m Free = m
+pointed i m (Begun z o) = record { words = upd (m .words) z (left (m .words z) o); phase = upd (m .phase) i (Done z o (answer (m .words z) o)) }
+pointed i m (Done z o y) = m
+
+unfoldable pub watch : Watcher → Event → Watcher
+watch m (Begin i z o) = putPhase i (Begun z o) m
+watch m (Point i) = pointed i m (m .phase i)
+watch m (End i result) = putPhase i Free m
+
+unfoldable pub watched : Watcher → List Event → Watcher
+watched m [] = m
+watched m (e ∷ es) = watched (watch m e) es
+
+-- a call begins where the station is free, has its point once, and ends after it with the word's answer
+abbrev pub Waits : Phase → Type 0
+Waits Free = ⊥
+Waits (Begun z o) = Unit {0}
+Waits (Done z o y) = ⊥
+
+abbrev pub Ends : ℕ → Phase → Type 0
+Ends result Free = ⊥
+Ends result (Begun z o) = ⊥
+Ends result (Done z o y) = Agrees o y result
+
+unfoldable pub Fits : Watcher → Event → Type 0
+Fits m (Begin i z o) = m .phase i ≡ Free
+Fits m (Point i) = Waits (m .phase i)
+Fits m (End i result) = Ends result (m .phase i)
+
+-- each event fits what was watched before it
+unfoldable pub Good : Watcher → List Event → Type 0
+Good m [] = Unit {0}
+Good m (e ∷ es) = Fits m e × Good (watch m e) es
