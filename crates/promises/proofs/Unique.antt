@@ -14,6 +14,11 @@ pub one-result : OneResult
 one-result =
     record {
       store = λ out x. by-equation _;
+      spell = λ part. by-equation _;
+      read = λ file. by-equation _;
+      table = λ file. by-equation _;
+      turns = λ file. by-equation _;
+      callAt = λ table k. by-equation _;
       halvesMaxWrite = λ h f g. by-equation _;
       halvesHalfMax = λ h f. by-equation _;
       halvesWord = λ h. by-equation _;

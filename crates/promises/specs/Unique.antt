@@ -3,8 +3,12 @@ use mathlib.Core.Path.{_≡_}
 use mathlib.Core.Bool.{Bool}
 use mathlib.Core.List.{List}
 use Prim.Native.Nat.{ℕ}
-use lib.ListN.{length}
-use Rattle.octets.specs.Bytes.{bytes}
+use lib.ListN.{length, take}
+use Rattle.octets.specs.Bytes.{bytes, spelled}
+use Rattle.runfile.specs.declared.ReadAnswer.{ReadAnswer}
+use Rattle.runfile.specs.declared.CallRecord.{CallRecord}
+use Rattle.runfile.specs.Layout as Layout
+use Rattle.runfile.specs.Reading as Reading
 use Rattle.card.specs.declared.Halves.{Halves}
 use Rattle.card.specs.declared.Claim.{Claim}
 use Rattle.card.specs.Register as Register
@@ -34,6 +38,11 @@ Unique X allowed = (x y : X) → allowed x → allowed y → x ≡ y
 -- the contracts, as their functions state them
 pub record OneResult : Type 0 where
   pub store : (out : List ℕ) (x : ℕ) → Unique (List ℕ) (λ r. r ≡ bytes (length out) x)
+  pub spell : (part : List ℕ) → Unique ℕ (λ r. r ≡ spelled (take 8 part))
+  pub read : (file : List ℕ) → Unique ReadAnswer (λ r. r ≡ Reading.readOf file)
+  pub table : (file : List ℕ) → Unique (List ℕ) (λ r. r ≡ Reading.tableOf file)
+  pub turns : (file : List ℕ) → Unique (List ℕ) (λ r. r ≡ Reading.turnsOf file)
+  pub callAt : (table : List ℕ) (k : ℕ) → Unique CallRecord (λ r. r ≡ Layout.callOf table k)
   pub halvesMaxWrite : (h : Halves) (f g : ℕ) → Unique Halves (λ r. r ≡ Register.maxWrite h f g)
   pub halvesHalfMax : (h : Halves) (f : ℕ) → Unique Halves (λ r. r ≡ Register.halfMax h f)
   pub halvesWord : (h : Halves) → Unique ℕ (λ r. r ≡ Word.wordOf h)
