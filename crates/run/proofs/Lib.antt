@@ -4,3 +4,4 @@ pub mod Books
 pub mod Steps
 pub mod After
 pub mod Loop
+pub mod Files
