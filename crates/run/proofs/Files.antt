@@ -1,8 +1,8 @@
 -- What a file that reads well gives a run: stations of the bench, good offers, and no more of them than the rows hold. Assumes nothing.
-use mathlib.Core.Path.{_≡_, refl, _∙_, sym, ap}
-use mathlib.Core.Bool.{Bool, true, false, cond, not, _&&_, _||_}
+use mathlib.Core.Path.{_≡_, refl}
+use mathlib.Core.Bool.{Bool, true, false, not, _&&_, _||_}
 use mathlib.Core.List.{List}
-use Prim.Native.Nat.{ℕ, _+_, _*_, _-_, _/_, _<_, _≤_}
+use Prim.Native.Nat.{ℕ, _*_, _-_, _<_, _≤_}
 use native.Mathlib.Omega.{arith}
 use borrow.Author.Tests.{ltb-false, eqb-false, le-ltb, ne-eqb}
 use lib.Dec.{eqb, ltb}
@@ -17,7 +17,7 @@ use Rattle.runfile.proofs.Answers.{by-answer}
 use Rattle.runfile.proofs.First.{searched}
 use Rattle.runfile.proofs.Limits.{within}
 use Rattle.runfile.proofs.Trailers.{length-part}
-use Rattle.run.specs.Calls.{offer, StationsWithin}
+use Rattle.run.specs.Calls.{StationsWithin}
 use Rattle.run.specs.Drive.{Good}
 
 -- a good station is one of 1 to n

@@ -5,3 +5,4 @@ pub mod Steps
 pub mod After
 pub mod Loop
 pub mod Files
+pub mod Start

@@ -4,8 +4,9 @@ use mathlib.Core.Logic.{_⊎_}
 use mathlib.Core.Bool.{true, false}
 use mathlib.Core.List.{List}
 use Prim.Native.Nat.{ℕ, _<_, _≤_}
-use lib.ListN.{length, getD}
+use lib.ListN.{length, getD, replicate, take}
 use Rattle.runfile.specs.Layout.{records, callOf}
+use Rattle.runfile.specs.Reading.{readOf, tableOf, turnsOf}
 use Rattle.bench.specs.declared.Bench.{Bench}
 use Rattle.bench.specs.Record.{stationAt}
 use Rattle.bench.specs.Sound.{sound}
@@ -15,7 +16,7 @@ use Rattle.run.specs.declared.Drove.{Drove}
 use Rattle.run.specs.Calls.{offer, waits, Linked}
 use Rattle.run.specs.Rows.{CallsWithin, Fits}
 use Rattle.run.specs.Book.{bookOf}
-use Rattle.run.specs.Run.{runFrom}
+use Rattle.run.specs.Run.{Run, runFrom, runOf}
 
 abbrev pub noTally : Tally
 noTally = record { idle = 0; begun = 0; ended = 0; listed = 0 }
@@ -53,3 +54,29 @@ unfoldable pub Driven : Bench → List ℕ → List ℕ → List ℕ → List �
 Driven w table turns head latest own told point list r head′ latest′ own′ told′ point′ list′ =
     record { bench = r .bench; turns = length turns; book = bookOf head′ latest′ own′ told′ point′ list′ (r .tally) }
     ≡ runFrom table (record { bench = w; turns = 0; book = bookOf head latest own told point list noTally }) turns
+
+-- all rows are zero
+pub record Blank (next head latest wait own told point list : List ℕ) : Type 0 where
+  pub nexts : next ≡ replicate 1025 0
+  pub heads : head ≡ replicate 33 0
+  pub latests : latest ≡ replicate 33 0
+  pub waits : wait ≡ replicate 33 0
+  pub owns : own ≡ replicate 1025 0
+  pub tolds : told ≡ replicate 1025 0
+  pub points : point ≡ replicate 1025 0
+  pub lists : list ≡ replicate 1025 0
+
+-- the run of a file that reads well
+abbrev pub runOfFile : List ℕ → Run
+runOfFile file = runOf (readOf file .x) (readOf file .n) (tableOf file) (turnsOf file)
+
+-- what is left for its report: the bench, the counts and the rows by call
+pub record Ran (file : List ℕ) (r : Drove) (own told point list : List ℕ) : Type 0 where
+  pub bench : r .bench ≡ runOfFile file .bench
+  pub owns : own ≡ runOfFile file .book .own
+  pub tolds : told ≡ runOfFile file .book .told
+  pub points : point ≡ runOfFile file .book .point
+  pub lists : take (r .tally .listed) list ≡ runOfFile file .book .list
+  pub idle : r .tally .idle ≡ runOfFile file .book .idle
+  pub begun : r .tally .begun ≡ runOfFile file .book .begun
+  pub ended : r .tally .ended ≡ runOfFile file .book .ended

@@ -1,11 +1,12 @@
 // A run of a file: calls out of its table are offered to the stations, turn by turn, and a book is kept of what took effect when.
-// Its modules: calls (which call is whose next), book (what is kept by stations and by calls), drive (the loop over the turns).
+// Its modules: calls (which call is whose next), book (what is kept by stations and by calls), drive (the loop over the turns), ran (the run of a whole file).
 use bench::Bench;
 use card::Claim;
 
 mod book;
 mod calls;
 mod drive;
+mod ran;
 
 // The counts of a run so far: idle turns, calls begun, calls ended, calls listed.
 pub struct Tally {
