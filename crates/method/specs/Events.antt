@@ -22,7 +22,7 @@ operates (Refused number) = false
 
 -- a station at rest that does an operation begins the offered call
 abbrev pub begins : Place → Turn → Answer → List Event
-begins q u x = cond (eqb (num q) 0 && operates x) (Begin (u .station) (u .word) (call (u .kind) (u .a) (u .b)) ∷ []) []
+begins q u x = cond (operates x && eqb (num q) 0) (Begin (u .station) (u .word) (call (u .kind) (u .a) (u .b)) ∷ []) []
 
 abbrev pub ends : ℕ → Answer → List Event
 ends i Idle = []
