@@ -1,6 +1,7 @@
 -- The words of a run's text, as bytes. Assumes nothing.
-use mathlib.Core.List.{List, [], _∷_}
+use mathlib.Core.List.{List}
 use Prim.Native.Nat.{ℕ}
+use Rattle.script.specs.Quote.{quote}
 
 abbrev pub newline : ℕ
 newline = 10
@@ -9,19 +10,19 @@ abbrev pub space : ℕ
 space = 32
 
 abbrev pub startWord : List ℕ
-startWord = 115 ∷ 116 ∷ 97 ∷ 114 ∷ 116 ∷ []
+startWord = quote "start"
 
 abbrev pub stationsWord : List ℕ
-stationsWord = 115 ∷ 116 ∷ 97 ∷ 116 ∷ 105 ∷ 111 ∷ 110 ∷ 115 ∷ []
+stationsWord = quote "stations"
 
 abbrev pub readWord : List ℕ
-readWord = 114 ∷ 101 ∷ 97 ∷ 100 ∷ []
+readWord = quote "read"
 
 abbrev pub setWord : List ℕ
-setWord = 115 ∷ 101 ∷ 116 ∷ []
+setWord = quote "set"
 
 abbrev pub swapWord : List ℕ
-swapWord = 115 ∷ 119 ∷ 97 ∷ 112 ∷ []
+swapWord = quote "swap"
 
 abbrev pub turnsWord : List ℕ
-turnsWord = 116 ∷ 117 ∷ 114 ∷ 110 ∷ 115 ∷ []
+turnsWord = quote "turns"

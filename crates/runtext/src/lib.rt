@@ -1,13 +1,15 @@
 // The text form of a run file, docs/RUN-TEXT.md: a file that reads well is printed as text, and a text is turned into a file.
 // Its modules: printing; words and drafts (what the words of a text say, one at a time), scanning (where words and lines
-// end), gathering (what a text's calls and turns are) and parsing.
+// end), gathering (what a text's calls and turns are) and parsing; and messages (what was expected, in words).
 mod drafts;
 mod gathering;
+mod messages;
 mod parsing;
 mod printing;
 mod scanning;
 mod words;
 
+pub use messages::complain;
 pub use parsing::parse;
 pub use printing::print;
 use runfile::CallRecord;
