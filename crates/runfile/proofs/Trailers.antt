@@ -23,10 +23,10 @@ bytes-part s a k h = bytes-take k (drop a s) (bytes-drop a s h)
 
 -- a field in front of others, and a field behind one
 module _ (k x : ℕ) (rest : List ℕ) where
-  at-front : x < 256 ^ k → field (bytes k x ++ rest) 0 k ≡ x
+  pub at-front : x < 256 ^ k → field (bytes k x ++ rest) 0 k ≡ x
   at-front h = ap spelled (take-at (bytes k x) rest k (length-bytes k x)) ∙ inverse .spellsWritten k x h
 
-  behind : (a j : ℕ) → part (bytes k x ++ rest) (k + a) j ≡ part rest a j
+  pub behind : (a j : ℕ) → part (bytes k x ++ rest) (k + a) j ≡ part rest a j
   behind a j =
       ap (λ i. take j (drop (i + a) (bytes k x ++ rest))) (sym (length-bytes k x))
       ∙ ap (take j) (drop-append-add (bytes k x) rest a)
@@ -66,7 +66,7 @@ told z f =
     simp append-assoc (simp (e1, e2, e3, e4, e5, e6))
 
 -- a field of bytes, read and written again
-again : (s : List ℕ) (a k : ℕ) → AllBytes s → a + k ≤ length s → bytes k (field s a k) ≡ part s a k
+pub again : (s : List ℕ) (a k : ℕ) → AllBytes s → a + k ≤ length s → bytes k (field s a k) ≡ part s a k
 again s a k h l =
     ap (λ j. bytes j (field s a k)) (sym (length-part s a k l)) ∙ inverse .writesSpelled (part s a k) (bytes-part s a k h)
 

@@ -1,0 +1,42 @@
+use borrow.Author.Needs.{needs}
+use mathlib.Core.Path.{_∙_, sym, ap}
+use Prim.Native.Nat.{_≤_}
+use native.Mathlib.Omega.{arith}
+use lib.ListN.{length}
+use Rattle.runtext.specs.Parse.{lacking, tableIn, turnsIn}
+use Rattle.runtext.proofs.Sane.{table-fits, turns-fit}
+use Rattle.runtext.proofs.Parses.{refused, front, front-ends, taken-from}
+use Rattle.runtext.proofs.parsing.parse_by.Statement.{statement}
+use Rattle.runtext.proofs.parsing.parse_by.Tie as tie
+
+-- the two rows are long enough
+table-row : (c : tie.Start) → length (tableIn (c .args .text .now)) ≤ length (c .args .table .now)
+table-row c = rw (c .pre .0) (table-fits (c .args .text .now))
+
+turns-row : (c : tie.Start) → length (turnsIn (c .args .text .now)) ≤ length (c .args .turns .now)
+turns-row c = rw (c .pre .1) (turns-fit (c .args .text .now))
+
+pub parse-by-spec : {M : Type 1} → statement M
+parse-by-spec =
+    tie.close
+    (tie.spec
+    (λ c κs. search needs)
+    (λ c κs. search needs)
+    (λ c. search needs)
+    (λ c. search needs)
+    (λ c. let h = c .before .before .before .before .before .before .before .heaped .ensures in refused (c .before .before .before .before .before .before .before .before .before .before .before .before .before .before .args .text .now) _ _ _ (h .0 .0) (c .before .lacking .ensures ∙ ap lacking (h .0 .1)) (c .if1 .taken))
+    (λ c. search needs)
+    (λ c. search needs)
+    (λ c. omega (arith, front-ends _ (c .before .before .before .before .before .before .before .before .heaped .ensures .1 .calls) (table-row (c .before .before .before .before .before .before .before .before .before .before .before .before .before .before .before))))
+    (λ c. search needs)
+    (λ c. search needs)
+    (λ c. omega (arith, front-ends _ (c .before .before .before .before .before .before .before .before .before .before .heaped .ensures .1 .turned) (turns-row (c .before .before .before .before .before .before .before .before .before .before .before .before .before .before .before .before .before))))
+    (λ c κs. search needs)
+    (λ c. search needs)
+    (λ c. search needs)
+    (λ c. search needs)
+    (λ c.
+    let h = c .before .before .before .before .before .before .before .before .before .before .before .before .before .before .before .heaped in
+    let f = h .ensures .1 in
+    taken-from (c .before .before .before .before .before .before .before .before .before .before .before .before .before .before .before .before .before .before .before .before .before .before .args .text .now) _ _ _ (h .result .table) (h .result .turns) (h .result .draft) (h .ensures .0 .1) (sym (c .before .before .before .before .before .before .before .before .before .lacking .ensures) ∙ c .before .before .before .before .before .before .before .before .if1 .left)
+    (front _ (f .calls) (table-row (c .before .before .before .before .before .before .before .before .before .before .before .before .before .before .before .before .before .before .before .before .before .before))) (front _ (f .turned) (turns-row (c .before .before .before .before .before .before .before .before .before .before .before .before .before .before .before .before .before .before .before .before .before .before))) _ _ (c .before .before .write .ensures)))

@@ -1,0 +1,19 @@
+use borrow.Author.Needs.{needs}
+use native.Mathlib.Omega.{arith}
+use borrow.Author.Tests.{eq-eqb, ne-eqb}
+use Rattle.script.proofs.Writes.{still, andThen}
+use Rattle.runtext.specs.Text.{turnsText}
+use Rattle.runtext.proofs.printing.put_turns.Statement.{statement}
+use Rattle.runtext.proofs.printing.put_turns.Tie as tie
+
+pub put-turns-spec : {M : Type 1} → statement M
+unfolding turnsText
+put-turns-spec =
+    tie.close
+    (tie.spec
+    (λ c. simp (eq-eqb _ _ (c .if1 .taken)) (still _ _ (omega arith) (omega arith)))
+    (λ c. search needs)
+    (λ c κs. search needs)
+    (λ c κs. search needs)
+    (λ c. search needs)
+    (λ c. simp (ne-eqb _ _ (c .before .before .before .before .before .before .before .before .before .if1 .left)) (andThen (c .before .before .before .before .before .before .word .ensures) (c .before .before .put-rows .ensures))))

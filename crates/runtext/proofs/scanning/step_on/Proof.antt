@@ -1,0 +1,26 @@
+use borrow.Author.Needs.{needs}
+use mathlib.Core.Path.{_∙_, sym}
+use borrow.Author.Tests.{eq-eqb, ne-eqb}
+use Rattle.runtext.specs.Scan.{stepOn}
+use Rattle.runtext.proofs.scanning.step_on.Statement.{statement}
+use Rattle.runtext.proofs.scanning.step_on.Tie as tie
+
+pub step-on-spec : {M : Type 1} → statement M
+unfolding stepOn
+step-on-spec =
+    tie.close
+    (tie.spec
+    (λ c κs. search needs)
+    (λ c κs. search needs)
+    (λ c κs. search needs)
+    (λ c. simp (eq-eqb _ _ (c .before .before .before .if1 .taken), c .between .ensures, c .before .next-line .ensures, c .before .before .line-ended .ensures))
+    (λ c. simp (ne-eqb _ _ (c .before .if1 .left), c .if2 .taken))
+    (λ c κs. search needs)
+    (λ c κs. search needs)
+    (λ c. simp (ne-eqb _ _ (c .before .before .before .before .if1 .left), c .before .before .before .if2 .left, eq-eqb _ _ (c .before .before .if3 .taken), c .between2 .ensures, c .before .word-ended .ensures))
+    (λ c κs. search needs)
+    (λ c κs. search needs)
+    (λ c κs. search needs)
+    (λ c. simp (ne-eqb _ _ (c .before .before .before .before .before .before .if1 .left), c .before .before .before .before .before .if2 .left, ne-eqb _ _ (c .before .before .before .before .if3 .left), sym (c .before .before .before .is-blank .ensures) ∙ c .before .before .if4 .taken, c .between3 .ensures, c .before .word-ended2 .ensures))
+    (λ c κs. search needs)
+    (λ c. simp (ne-eqb _ _ (c .before .before .before .before .before .if1 .left), c .before .before .before .before .if2 .left, ne-eqb _ _ (c .before .before .before .if3 .left), sym (c .before .before .is-blank .ensures) ∙ c .before .if4 .left, c .grown .ensures)))

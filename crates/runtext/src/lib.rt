@@ -1,0 +1,73 @@
+// The text form of a run file, docs/RUN-TEXT.md: a file that reads well is printed as text, and a text is turned into a file.
+// Its modules: printing; words and drafts (what the words of a text say, one at a time), scanning (where words and lines
+// end), gathering (what a text's calls and turns are) and parsing; and messages (what was expected, in words).
+mod drafts;
+mod gathering;
+mod messages;
+mod parsing;
+mod printing;
+mod scanning;
+mod words;
+
+pub use messages::complain;
+pub use parsing::parse;
+pub use printing::print;
+use runfile::CallRecord;
+
+// refused and k are the file's, or refused is 14; len is the number of bytes written, and 0 where refused is not.
+pub struct Printed {
+    pub refused: u32,
+    pub k: usize,
+    pub len: usize,
+}
+
+// The line, from 1, and a number for what was expected there; line 0 with 14 for a buffer that is too short. Both are 0
+// where the file was written, and len is its number of bytes.
+pub struct Parsed {
+    pub line: usize,
+    pub expected: u32,
+    pub len: usize,
+}
+
+// code is 0 where there is no word, and a number to the base 32 for a word of small letters; number is the word's value.
+// A code of NO_CODE or more is no word of the text, a number of NO_NUMBER or more no value.
+pub(crate) struct Word {
+    pub code: u64,
+    pub number: u64,
+}
+
+// The word that comes next, or that the line has to end.
+pub(crate) enum Stage {
+    Start,
+    StartValue,
+    AfterStart,
+    Stations,
+    Count,
+    AfterCount,
+    Call,
+    Kind,
+    First,
+    Second,
+    AfterCall,
+    Turn,
+}
+
+// expected is 0 as long as nothing is refused. q and t count the calls and turns so far; call is the last of them, of which
+// a turn has the station alone.
+pub(crate) struct Draft {
+    pub expected: u32,
+    pub stage: Stage,
+    pub x: u32,
+    pub n: u32,
+    pub q: usize,
+    pub t: usize,
+    pub call: CallRecord,
+}
+
+// The line from 1, whether the rest of it is a comment, the word so far, and what was said before it.
+pub(crate) struct Scan {
+    pub line: usize,
+    pub comment: bool,
+    pub word: Word,
+    pub draft: Draft,
+}
