@@ -8,3 +8,6 @@ pub mod Sane
 pub mod Parses
 pub mod Lengths
 pub mod Prints
+pub mod Goes
+pub mod Back
+pub mod Promised

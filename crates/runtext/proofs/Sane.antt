@@ -74,11 +74,11 @@ abbrev Sane : Draft → List ℕ → List ℕ → Type 0
 Sane d table turns = Common (d .x) (d .n) (d .q) (d .t) table turns × At (d .stage) d
 
 -- nothing is added where the count is the same
-no-call : (q : ℕ) (d : Draft) → q ≡ d .q → callFrom q d ≡ []
+pub no-call : (q : ℕ) (d : Draft) → q ≡ d .q → callFrom q d ≡ []
 unfolding callFrom
 no-call q d e = rw (eq-eqb q (d .q) e)
 
-no-turn : (t : ℕ) (d : Draft) → t ≡ d .t → turnFrom t d ≡ []
+pub no-turn : (t : ℕ) (d : Draft) → t ≡ d .t → turnFrom t d ≡ []
 unfolding turnFrom
 no-turn t d e = rw (eq-eqb t (d .t) e)
 

@@ -5,3 +5,4 @@ pub mod Scan
 pub mod Gather
 pub mod Parse
 pub mod Complaint
+pub mod Promise

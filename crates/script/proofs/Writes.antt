@@ -13,6 +13,7 @@ use Rattle.rules.proofs.Facts.{either-way}
 use Rattle.octets.proofs.Buffers.{sets-append}
 use Rattle.octets.proofs.Buffers.{in-front as at-front}
 use Rattle.script.specs.Wrote.{lastPlace, cut, Wrote}
+use Rattle.script.specs.Promise.{WritersSettled}
 
 -- past the end nothing is written
 sets-out : (vs l : List ℕ) (i : ℕ) → length l ≤ i → sets l i vs ≡ l
@@ -25,6 +26,10 @@ sets-cut vs l k h =
     either-way (leb k lastPlace)
     (λ t. let g = leb-true k lastPlace t in let e : cut k ≡ k = omega arith in ap (λ i. sets l i vs) e)
     (λ f. let g = leb-false k lastPlace f in sets-out vs l (cut k) (omega arith) ∙ sym (sets-out vs l k (omega arith)))
+
+pub writers-are-settled : WritersSettled
+unfolding WritersSettled
+writers-are-settled out a b at i j text v w = (v .stands ∙ sym (w .stands), v .after ∙ sym (w .after))
 
 -- nothing written
 pub still : (l : List ℕ) (i : ℕ) → length l ≤ lastPlace → i ≤ lastPlace → Wrote l l i i []

@@ -1,3 +1,4 @@
 pub mod Wrote
 pub mod Quote
 pub mod Decimal
+pub mod Promise

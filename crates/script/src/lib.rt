@@ -5,6 +5,7 @@ ghost use mathlib.Core.List.{[], _∷_};
 ghost use Prim.Native.Nat.{_≤_};
 ghost use Rattle.script.specs.Wrote.{Wrote};
 ghost use Rattle.script.specs.Decimal.{decimal, back};
+ghost use Rattle.script.specs.Promise.{WritersSettled};
 
 // The place past which none is counted.
 const LAST_PLACE: usize = 18446744073709551615;
@@ -82,3 +83,8 @@ pub fn decimal(out: &mut [u8], at: usize, x: u32) -> usize
     let len = r.len;
     turned(out, at, digits, len)
 }
+
+// The contract of a writer allows one buffer and one next place for each input.
+pub fn writers_are_settled()
+    ensures { λ r. ⌜ WritersSettled ⌝ }
+{}
