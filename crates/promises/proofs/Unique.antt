@@ -2,21 +2,15 @@
 use mathlib.Core.Path.{_≡_, _∙_, sym}
 use mathlib.Core.List.{List}
 use Prim.Native.Nat.{ℕ}
-use Rattle.runfile.specs.Promise.{WriterSettled}
-use Rattle.runfile.proofs.Exact.{writer-settled}
 use Rattle.promises.specs.Unique.{Left, Unique, OneResult}
 
 by-equation : {X : Type 0} (d : X) → Unique X (λ r. r ≡ d)
 by-equation d x y p q = p ∙ sym q
 
-both : {X : Type 0} (x y : Left X) → x .result ≡ y .result → x .out ≡ y .out → x ≡ y
-both x y p q i = record { result = p i; out = q i }
-
 by-equations : {X : Type 0} (d : X) (l : List ℕ) → Unique (Left X) (λ r. (r .result ≡ d) × (r .out ≡ l))
-by-equations d l x y p q = both x y (p .0 ∙ sym (q .0)) (p .1 ∙ sym (q .1))
+by-equations d l x y p q i = record { result = (p .0 ∙ sym (q .0)) i; out = (p .1 ∙ sym (q .1)) i }
 
 pub one-result : OneResult
-unfolding WriterSettled
 one-result =
     record {
       store = λ out x. by-equation _;
@@ -25,12 +19,6 @@ one-result =
       table = λ file. by-equation _;
       turns = λ file. by-equation _;
       callAt = λ table k. by-equation _;
-      write = λ x n table turns out r q p o.
-          let e = writer-settled x n table turns out (r .result) (q .result) (r .out) (q .out) p o in
-          both r q (e .0) (e .1);
-      append = λ out at text r q p o. both r q (p .after ∙ sym (o .after)) (p .stands ∙ sym (o .stands));
-      print = λ file out r q p o. both r q (p .answered ∙ sym (o .answered)) (p .left ∙ sym (o .left));
-      parse = λ text out r q p o. both r q (p .answered ∙ sym (o .answered)) (p .left ∙ sym (o .left));
       halvesMaxWrite = λ h f g. by-equation _;
       halvesHalfMax = λ h f. by-equation _;
       halvesWord = λ h. by-equation _;

@@ -7,15 +7,8 @@ use lib.ListN.{length, take}
 use Rattle.octets.specs.Bytes.{bytes, spelled}
 use Rattle.runfile.specs.declared.ReadAnswer.{ReadAnswer}
 use Rattle.runfile.specs.declared.CallRecord.{CallRecord}
-use Rattle.runfile.specs.declared.WriteAnswer.{WriteAnswer}
 use Rattle.runfile.specs.Layout as Layout
 use Rattle.runfile.specs.Reading as Reading
-use Rattle.runfile.specs.Writing.{Written}
-use Rattle.script.specs.Wrote.{Wrote}
-use Rattle.runtext.specs.declared.Printed.{Printed}
-use Rattle.runtext.specs.declared.Parsed.{Parsed}
-use Rattle.runtext.specs.Text.{PrintedTo}
-use Rattle.runtext.specs.Parse.{ParsedTo}
 use Rattle.card.specs.declared.Halves.{Halves}
 use Rattle.card.specs.declared.Claim.{Claim}
 use Rattle.card.specs.Register as Register
@@ -50,11 +43,6 @@ pub record OneResult : Type 0 where
   pub table : (file : List ℕ) → Unique (List ℕ) (λ r. r ≡ Reading.tableOf file)
   pub turns : (file : List ℕ) → Unique (List ℕ) (λ r. r ≡ Reading.turnsOf file)
   pub callAt : (table : List ℕ) (k : ℕ) → Unique CallRecord (λ r. r ≡ Layout.callOf table k)
-  pub write : (x n : ℕ) (table turns out : List ℕ) → Unique (Left WriteAnswer) (λ r. Written x n table turns out (r .result) (r .out))
-  -- of a byte, a word, a decimal number and a complaint
-  pub append : (out : List ℕ) (at : ℕ) (text : List ℕ) → Unique (Left ℕ) (λ r. Wrote out (r .out) at (r .result) text)
-  pub print : (file out : List ℕ) → Unique (Left Printed) (λ r. PrintedTo file out (r .result) (r .out))
-  pub parse : (text out : List ℕ) → Unique (Left Parsed) (λ r. ParsedTo text out (r .result) (r .out))
   pub halvesMaxWrite : (h : Halves) (f g : ℕ) → Unique Halves (λ r. r ≡ Register.maxWrite h f g)
   pub halvesHalfMax : (h : Halves) (f : ℕ) → Unique Halves (λ r. r ≡ Register.halfMax h f)
   pub halvesWord : (h : Halves) → Unique ℕ (λ r. r ≡ Word.wordOf h)
