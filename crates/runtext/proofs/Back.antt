@@ -2,12 +2,12 @@
 use mathlib.Core.Path.{_≡_, refl, _∙_, sym, ap, subst}
 use mathlib.Core.Bool.{Bool, true, false, cond}
 use mathlib.Core.List.{List, [], _∷_, _++_, append-nil, append-assoc}
-use Prim.Native.Nat.{ℕ, zero, suc, _+_, _*_, _%_, _^_, _<_, _≤_}
+use Prim.Native.Nat.{ℕ, zero, suc, _+_, _*_, _%_, _<_, _≤_}
 use native.Mathlib.Omega.{arith}
-use native.Mathlib.Nat.{mod-eq-of-lt, mul-suc}
+use native.Mathlib.Nat.{mod-eq-of-lt}
 use native.Mathlib.Numerals.{add-one}
-use borrow.Author.Tests.{eqb-true, eqb-false, eq-eqb, ne-eqb, lt-ltb, le-leb, lt-leb}
-use lib.Dec.{eqb, leb, ltb}
+use borrow.Author.Tests.{eqb-true, eqb-false, ne-eqb, lt-ltb, le-leb, lt-leb}
+use lib.Dec.{eqb}
 use lib.ListN.{length, getD, take}
 use lib.Seq.{take-suc, take-add, take-all, take-length}
 use Rattle.octets.specs.Bytes.{bytes, AllBytes}
@@ -15,14 +15,13 @@ use Rattle.rules.proofs.Facts.{either-way}
 use Rattle.script.specs.Wrote.{cut}
 use Rattle.script.specs.Decimal.{decimal}
 use Rattle.runfile.specs.declared.CallRecord.{CallRecord}
-use Rattle.runfile.specs.Layout.{records, callBytes, callRecord, callOf, noCall}
+use Rattle.runfile.specs.Layout.{records, callBytes, callOf, noCall}
 use Rattle.runtext.specs.declared.Stage.{Stage}
-use Rattle.runtext.specs.declared.Stage.the-variants.{Start, StartValue, AfterStart, Stations, Count, AfterCount, Call, Kind, First, Second, AfterCall, Turn}
-use Rattle.runtext.specs.declared.Draft.{Draft}
+use Rattle.runtext.specs.declared.Stage.the-variants.{StartValue, Stations, Count, Call, Kind, First, Second, Turn}
 use Rattle.runtext.specs.declared.Scan.{Scan}
 use Rattle.runtext.specs.Letters.{newline, space, startWord, stationsWord, readWord, setWord, swapWord, turnsWord}
-use Rattle.runtext.specs.Text.{headText, kindText, valuesText, callText, callsText, rowEnds, turnText, rowsText, turnsText, textOf}
-use Rattle.runtext.specs.Draft.{word, noWord, noCode, noNumber, grown, codeFrom, is, draft, tookStart, tookCount, tookStation, tookKind, tookFirst, tookSecond, tookTurn, tookAt, madeCall, endedAt, lackingAt, recordBytes, callFrom, turnFrom, callMade, turnMade}
+use Rattle.runtext.specs.Text.{headText, kindText, valuesText, callText, callsText, rowEnds, rowsText, turnsText, textOf}
+use Rattle.runtext.specs.Draft.{word, noWord, noCode, noNumber, grown, codeFrom, is, draft, tookStart, tookCount, tookStation, tookKind, tookFirst, tookSecond, tookTurn, tookAt, madeCall, endedAt, lackingAt, recordBytes, callFrom, turnFrom}
 use Rattle.runtext.specs.Scan.{scan, noScan, wordEnded, lineEnded, stepOn, step, run, given}
 use Rattle.runtext.specs.Parse.{lastDraft, lacking, tableIn, turnsIn}
 use Rattle.runtext.proofs.Records.{GoodCall}

@@ -1,6 +1,6 @@
 -- The two rows that a text fills, a byte of the text at a time. Assumes nothing.
-use mathlib.Core.Path.{_≡_, refl, _∙_, sym, ap}
-use mathlib.Core.List.{List, []}
+use mathlib.Core.Path.{_≡_, _∙_, sym, ap}
+use mathlib.Core.List.{List}
 use Prim.Native.Nat.{ℕ, _+_, _<_, _≤_}
 use native.Mathlib.Omega.{arith}
 use lib.ListN.{length, getD, take}
@@ -11,7 +11,7 @@ use Rattle.runtext.specs.declared.Scan.{Scan}
 use Rattle.runtext.specs.Draft.{callMade, turnMade}
 use Rattle.runtext.specs.Scan.{noScan, step, run, given, lineEnded}
 use Rattle.runtext.specs.Gather.{Filled}
-use Rattle.runtext.specs.Parse.{lastDraft, tableIn, turnsIn}
+use Rattle.runtext.specs.Parse.{tableIn, turnsIn}
 use Rattle.runtext.proofs.Scans.{run-more, given-more}
 
 -- what stands in the rows after the first i bytes of a text

@@ -1,11 +1,11 @@
 -- Texts that are scanned to a known end, piece by piece: a word, a number, a space, a newline. Assumes nothing.
-use mathlib.Core.Path.{_≡_, refl, _∙_, sym, ap}
+use mathlib.Core.Path.{_≡_, refl, _∙_, ap}
 use mathlib.Core.Bool.{Bool, true, false, not, _&&_}
 use mathlib.Core.List.{List, [], _∷_, _++_, append-nil}
-use Prim.Native.Nat.{ℕ, _+_, _*_, _-_, _/_, _%_, _^_, _<_, _≤_}
+use Prim.Native.Nat.{ℕ, _+_, _*_, _-_, _/_, _%_, _<_}
 use native.Mathlib.Omega.{arith}
 use borrow.Author.Tests.{not-true, ne-eqb, lt-ltb, le-leb, lt-leb}
-use lib.Dec.{eqb, leb, ltb}
+use lib.Dec.{eqb}
 use Rattle.rules.proofs.Facts.{and-left, and-right, and-both}
 use Rattle.script.specs.Decimal.{digit, decimal}
 use Rattle.script.proofs.Decimals.{by-digits}
@@ -14,7 +14,7 @@ use Rattle.runtext.specs.declared.Word.{Word}
 use Rattle.runtext.specs.declared.Stage.{Stage}
 use Rattle.runtext.specs.declared.Draft.{Draft}
 use Rattle.runtext.specs.declared.Scan.{Scan}
-use Rattle.runtext.specs.Draft.{word, noWord, noCode, noNumber, isLetter, isDigit, codeMore, numberMore, grown, draft, callMade, turnMade}
+use Rattle.runtext.specs.Draft.{word, noWord, noCode, noNumber, grown, draft, callMade, turnMade}
 use Rattle.runtext.specs.Scan.{scan, isBlank, stepOn, step, run, given}
 use Rattle.runtext.proofs.Scans.{run-both, given-both}
 use Rattle.runtext.proofs.Sane.{no-call, no-turn}

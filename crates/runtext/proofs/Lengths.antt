@@ -1,7 +1,6 @@
 -- How long the text of a good run is: 153,635 bytes at most. Assumes nothing.
-use mathlib.Core.Path.{_≡_, refl, _∙_, sym, ap}
-use mathlib.Core.Bool.{true, false, cond, _||_}
-use mathlib.Core.List.{List, [], _∷_, _++_}
+use mathlib.Core.Path.{_≡_}
+use mathlib.Core.List.{List}
 use Prim.Native.Nat.{ℕ, zero, suc, _+_, _*_, _-_, _^_, _<_, _≤_}
 use native.Mathlib.Omega.{arith}
 use borrow.Author.Tests.{eqb-false, ne-eqb, le-ltb, ltb-false}
@@ -14,8 +13,7 @@ use Rattle.script.proofs.Decimals.{length-decimal, length-decimal-32}
 use Rattle.runfile.specs.declared.CallRecord.{CallRecord}
 use Rattle.runfile.specs.Layout.{records, callBytes, callRecord, callOf}
 use Rattle.runfile.proofs.Trailers.{length-part, bytes-part}
-use Rattle.runtext.specs.Letters.{newline, space, startWord, stationsWord, readWord, setWord, swapWord, turnsWord}
-use Rattle.runtext.specs.Text.{headText, kindText, valuesText, callText, callsText, rowEnds, turnText, rowsText, turnsText, textOf}
+use Rattle.runtext.specs.Text.{headText, kindText, valuesText, callText, callsText, rowsText, turnsText, textOf}
 use Rattle.runtext.specs.Draft.{recordBytes}
 use Rattle.runtext.proofs.Records.{GoodCall, numbers, same-record}
 use Rattle.runtext.proofs.Runs.{GoodRun}

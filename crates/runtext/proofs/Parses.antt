@@ -1,20 +1,18 @@
 -- What parsing answers and leaves in the buffer, from what the writer does with the run that the text tells. Assumes nothing.
-use mathlib.Core.Path.{_≡_, refl, _∙_, sym, ap}
-use mathlib.Core.Bool.{cond}
-use mathlib.Core.List.{List, [], _∷_, _++_}
-use Prim.Native.Nat.{ℕ, _+_, _-_, _<_, _≤_}
+use mathlib.Core.Path.{_≡_, refl, sym}
+use mathlib.Core.List.{List}
+use Prim.Native.Nat.{ℕ, _-_, _≤_}
 use native.Mathlib.Omega.{arith}
 use native.Mathlib.Nat.{sub-zero}
 use borrow.Author.Tests.{ltb-true, ltb-false, eq-eqb, ne-eqb}
-use lib.Dec.{eqb, ltb}
+use lib.Dec.{ltb}
 use lib.ListN.{length, take, drop}
 use lib.Seq.{take-at}
 use Rattle.rules.proofs.Facts.{either-way}
 use Rattle.script.specs.Wrote.{Wrote}
 use Rattle.script.proofs.Writes.{same-length, size, in-front}
 use Rattle.runfile.specs.declared.WriteAnswer.{WriteAnswer}
-use Rattle.runfile.specs.Layout.{fileOf}
-use Rattle.runfile.specs.Writing.{fileLength, wrote, writeOf, writeBy, outOf, Written}
+use Rattle.runfile.specs.Writing.{Written}
 use Rattle.runfile.proofs.Writes.{clear-writes}
 use Rattle.runtext.specs.declared.Draft.{Draft}
 use Rattle.runtext.specs.Scan.{noScan, run}

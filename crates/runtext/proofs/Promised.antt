@@ -1,16 +1,14 @@
 -- The promises of run files as text. Assumes nothing.
 use mathlib.Core.Path.{_≡_, refl, _∙_, sym, ap, subst}
-use mathlib.Core.Bool.{true, false, cond}
 use mathlib.Core.List.{List, _++_}
-use Prim.Native.Nat.{ℕ, _*_, _<_, _≤_}
+use Prim.Native.Nat.{ℕ, _*_, _≤_}
 use native.Mathlib.Omega.{arith}
-use borrow.Author.Tests.{eqb-true, eqb-false, eq-eqb, ne-eqb, le-ltb, ltb-true, ltb-false}
+use borrow.Author.Tests.{eqb-true, eqb-false, eq-eqb, le-ltb, ltb-false}
 use lib.Dec.{eqb, ltb}
 use lib.ListN.{length, take, drop}
 use lib.Seq.{take-at}
 use Rattle.octets.specs.Bytes.{AllBytes}
 use Rattle.rules.proofs.Facts.{either-way}
-use Rattle.runfile.specs.declared.WriteAnswer.{WriteAnswer}
 use Rattle.runfile.specs.Reading.{readOf, tableOf, turnsOf}
 use Rattle.runfile.specs.Writing.{writeOf, outOf, Written}
 use Rattle.runfile.specs.Promise.{Holds, ReadWritesBack, WrittenReadsBack}
@@ -18,9 +16,9 @@ use Rattle.runfile.proofs.Trailers.{bytes-part}
 use Rattle.runfile.proofs.Trips.{written-reads-back, read-writes-back}
 use Rattle.runtext.specs.declared.Printed.{Printed}
 use Rattle.runtext.specs.declared.Parsed.{Parsed}
-use Rattle.runtext.specs.Text.{fileText, printed, printOf, printedOn, PrintedTo}
+use Rattle.runtext.specs.Text.{fileText, printOf, printedOn, PrintedTo}
 use Rattle.runtext.specs.Scan.{noScan, run}
-use Rattle.runtext.specs.Parse.{lastDraft, lacking, tableIn, turnsIn, parsed, parseOf, parsedOn, ParsedTo}
+use Rattle.runtext.specs.Parse.{lastDraft, lacking, tableIn, turnsIn, parsed, ParsedTo}
 use Rattle.runtext.specs.Promise.{TurnedBack, PrintedReadsBack, TextsTellGoodRuns, AlwaysEnough, Settled}
 use Rattle.runtext.proofs.Runs.{held}
 use Rattle.runtext.proofs.Sane.{tells-good}

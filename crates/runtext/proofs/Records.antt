@@ -1,5 +1,5 @@
 -- A call's twelve bytes and its numbers: each is made of the other, and good numbers make a good call. Assumes nothing.
-use mathlib.Core.Path.{_≡_, refl, _∙_, sym, ap}
+use mathlib.Core.Path.{_≡_, _∙_, sym, ap}
 use mathlib.Core.Bool.{false, not, _&&_, _||_}
 use mathlib.Core.List.{List, _++_, append-assoc}
 use Prim.Native.Nat.{ℕ, _+_, _*_, _^_, _<_, _≤_}
@@ -7,7 +7,7 @@ use native.Mathlib.Omega.{arith}
 use borrow.Author.Tests.{eqb-true, eqb-false, ltb-false, not-false, eq-eqb, ne-eqb, le-ltb}
 use lib.Dec.{eqb, ltb}
 use lib.ListN.{length, take, drop, length-append, length-drop}
-use lib.Seq.{take-add, take-all, take-at, take-append-le, drop-at, drop-append-le}
+use lib.Seq.{take-add, take-all, take-append-le, drop-at, drop-append-le}
 use Rattle.octets.specs.Bytes.{bytes, spelled, AllBytes}
 use Rattle.octets.proofs.Bytes.{length-bytes}
 use Rattle.octets.proofs.Spelled.{inverse, fits-in}

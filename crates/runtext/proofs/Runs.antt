@@ -1,22 +1,22 @@
 -- What it says of a starting value, a number of stations, a call table and turns that they make a good run: a file that reads
 -- well holds one, and the writer refuses none. Assumes nothing.
-use mathlib.Core.Path.{_≡_, refl, _∙_, sym, ap}
-use mathlib.Core.Bool.{Bool, true, false, cond, not, _&&_, _||_}
+use mathlib.Core.Path.{_≡_, refl, _∙_, ap}
+use mathlib.Core.Bool.{Bool, false, cond}
 use mathlib.Core.List.{List, [], _∷_, _++_}
-use Prim.Native.Nat.{ℕ, _+_, _*_, _-_, _%_, _^_, _<_, _≤_}
+use Prim.Native.Nat.{ℕ, _*_, _-_, _%_, _^_, _<_, _≤_}
 use native.Mathlib.Omega.{arith}
-use borrow.Author.Tests.{eqb-true, eqb-false, ltb-false, not-false, eq-eqb, ne-eqb, le-ltb, lt-ltb}
+use borrow.Author.Tests.{eqb-false, ltb-false, eq-eqb, ne-eqb, le-ltb, lt-ltb}
 use lib.Dec.{eqb, ltb}
-use lib.ListN.{length, getD, take, drop, length-take}
-use Rattle.octets.specs.Bytes.{spelled, AllBytes}
-use Rattle.octets.proofs.Spelled.{fits-in, bytes-take, bytes-drop}
+use lib.ListN.{length, drop, length-take}
+use Rattle.octets.specs.Bytes.{AllBytes}
+use Rattle.octets.proofs.Spelled.{fits-in}
 use Rattle.rules.specs.Row.{Row, verdict, verdictOf}
-use Rattle.rules.proofs.Facts.{either-way, or-none}
+use Rattle.rules.proofs.Facts.{or-none}
 use Rattle.rules.proofs.Rows.{Clear, clear-both}
-use Rattle.runfile.specs.Layout.{part, field, zeroByte, records, callBytes, fileOf}
+use Rattle.runfile.specs.Layout.{part, records, fileOf}
 use Rattle.runfile.specs.declared.WriteAnswer.{WriteAnswer}
 use Rattle.runfile.specs.First.{firstOf}
-use Rattle.runfile.specs.Reading.{badStation, badCall, agrees, badCallAt, badTurnAt, firstCall, firstTurn, limitRows, partRows, tableBy, turnsBy, trailerAt, turnCount, runBy, readOf, tableOf, turnsOf}
+use Rattle.runfile.specs.Reading.{agrees, badCallAt, badTurnAt, firstCall, firstTurn, partRows, tableBy, turnsBy, trailerAt, turnCount, readOf, tableOf, turnsOf}
 use Rattle.runfile.specs.Writing.{fileLength, lengthRows, roomRows, writeRows, wrote, writeBy, writeOf, outOf, Written}
 use Rattle.runfile.proofs.Answers.{Good, by-answer}
 use Rattle.runfile.proofs.First.{searched}

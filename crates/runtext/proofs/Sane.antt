@@ -9,7 +9,7 @@ use native.Mathlib.Nat.{mod-eq-of-lt}
 use borrow.Author.Count.{below-more}
 use borrow.Author.Tests.{eqb-false, ltb-true, leb-true, leb-false, eq-eqb, ne-eqb, le-ltb}
 use lib.Dec.{eqb, leb, ltb}
-use lib.ListN.{length, getD, length-append, List·getD-append}
+use lib.ListN.{length, length-append, List·getD-append}
 use lib.Seq.{getD-at}
 use Rattle.octets.specs.Bytes.{bytes}
 use Rattle.rules.proofs.Facts.{and-left, and-right}
@@ -23,7 +23,7 @@ use Rattle.runtext.specs.declared.Draft.{Draft}
 use Rattle.runtext.specs.declared.Scan.{Scan}
 use Rattle.runtext.specs.Letters.{startWord, stationsWord, readWord, setWord, swapWord, turnsWord}
 use Rattle.runtext.specs.Draft.{draft, refuse, noNumber, is, isValue, isFrom1To, tookStart, tookCount, tookStation, tookKind, tookFirst, tookSecond, tookTurn, tookAt, madeCall, endedAt, recordBytes, callFrom, turnFrom, callMade, turnMade, lackingAt}
-use Rattle.runtext.specs.Scan.{wordEnded, ended, lineEnded, stepOn, step, run, given, isBlank, noScan}
+use Rattle.runtext.specs.Scan.{wordEnded, lineEnded, stepOn, step, run, given, isBlank, noScan}
 use Rattle.runtext.specs.Parse.{lastDraft, lacking, tableIn, turnsIn}
 use Rattle.runtext.proofs.Records.{GoodCall, good-call, length-record, call-before, call-last}
 use Rattle.runtext.proofs.Runs.{GoodRun}

@@ -14,10 +14,9 @@ use crate::words::SWAP;
 use crate::words::TURNS;
 use runfile::CallRecord;
 
-fn to(d: Draft, stage: Stage) -> Draft
-    ensures { λ r. ⌜ r ≡ to d stage ⌝ }
+fn with_call(d: Draft, stage: Stage, call: CallRecord) -> Draft
+    ensures { λ r. ⌜ r ≡ draft (d .expected) stage (d .x) (d .n) (d .q) (d .t) call ⌝ }
 {
-    let call = d.call;
     Draft {
         expected: d.expected,
         stage,
@@ -27,6 +26,13 @@ fn to(d: Draft, stage: Stage) -> Draft
         t: d.t,
         call,
     }
+}
+
+fn to(d: Draft, stage: Stage) -> Draft
+    ensures { λ r. ⌜ r ≡ to d stage ⌝ }
+{
+    let call = d.call;
+    with_call(d, stage, call)
 }
 
 fn refuse(d: Draft, expected: u32) -> Draft
@@ -52,20 +58,6 @@ fn keyword(d: Draft, there: bool, stage: Stage, expected: u32) -> Draft
         to(d, stage)
     } else {
         refuse(d, expected)
-    }
-}
-
-fn with_call(d: Draft, stage: Stage, call: CallRecord) -> Draft
-    ensures { λ r. ⌜ r ≡ draft (d .expected) stage (d .x) (d .n) (d .q) (d .t) call ⌝ }
-{
-    Draft {
-        expected: d.expected,
-        stage,
-        x: d.x,
-        n: d.n,
-        q: d.q,
-        t: d.t,
-        call,
     }
 }
 

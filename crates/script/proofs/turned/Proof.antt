@@ -1,9 +1,8 @@
 -- The loop keeps: the digits so far, from the row's last on, are written.
 use borrow.Author.Needs.{needs}
-use mathlib.Core.Path.{_≡_, refl, _∙_, sym}
 use Prim.Native.Nat.{_-_, _<_, _≤_}
 use native.Mathlib.Omega.{arith}
-use lib.ListN.{length, take}
+use lib.ListN.{take}
 use Rattle.script.specs.Wrote.{Wrote}
 use Rattle.script.specs.Decimal.{back}
 use Rattle.script.proofs.Writes.{still, same-length, one-more, all-there}

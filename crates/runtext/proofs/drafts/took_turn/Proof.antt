@@ -14,7 +14,9 @@ took-turn-spec =
     (λ c κs. search needs)
     (λ c. simp (le-leb _ _ (c .before .if1 .taken), c .refuse .ensures))
     (λ c. search needs)
-    (λ c. omega (arith, within (c .before .before .before .before .before .before .before .args .w .number) (c .before .before .before .before .before .before .before .args .d .n) (c .before .if2 .taken)))
+    (λ c.
+    let b = c .before .before .before .before .before .before .before in
+    omega (arith, within (b .args .w .number) (b .args .d .n) (c .before .if2 .taken)))
     (λ c. search needs)
     (λ c. simp (lt-leb _ _ (c .before .before .before .before .before .before .if1 .left), c .before .before .if2 .taken))
     (λ c κs. search needs)

@@ -11,4 +11,8 @@ fed-spec =
     (λ c κs. search needs)
     (λ c. search needs)
     (λ c. search needs)
-    (λ c. (c .before .before .before .before .before .before .before .before .before .step .ensures, record { calls = rw (← c .before .before .before .before .before .before .before .before .before .step .ensures) (c .before .before .before .before .before .before .put-call .ensures); turned = rw (← c .before .before .before .before .before .before .before .before .before .step .ensures) (c .before .before .put-turn .ensures) })))
+    (λ c.
+    let c3 = c .before .before in
+    let c2 = c3 .before .before .before .before in
+    let c1 = c2 .before .before .before in
+    (c1 .step .ensures, record { calls = rw (← c1 .step .ensures) (c2 .put-call .ensures); turned = rw (← c1 .step .ensures) (c3 .put-turn .ensures) })))

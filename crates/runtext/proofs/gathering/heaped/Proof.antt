@@ -16,10 +16,15 @@ heaped-spec =
     (λ c. search needs)
     (λ c. search needs)
     (λ c.
-    let p = c .before .before .before .before .before .before .before .before .before .before .before .before .before .before .before .gathered in
+    let c5 = c .before .before in
+    let c4 = c5 .before .before .before .before in
+    let c3 = c4 .before .before in
+    let c2 = c3 .before .before .before .before .before .before .before in
+    let c1 = c2 .before .before .before .before .before .before in
+    let p = c2 .gathered in
     let e = p .ensures .0 in
-    let t = c .before .before .before .before .before .before .before .before .before .before .before .before .before .before .before .before .before .before .before .before .before .args .text .now in
-    let n = c .before .before .before .before .before .before .before .before .line-ended .ensures in (
+    let t = c1 .args .text .now in
+    let n = c3 .line-ended .ensures in (
       (ap (λ s. s .line) e, n ∙ ap lineEnded e),
-      last-line t (p .result .scan) e (p .ensures .1) (record { calls = rw (← n) (c .before .before .before .before .before .before .put-call .ensures); turned = rw (← n) (c .before .before .put-turn .ensures) }),
+      last-line t (p .result .scan) e (p .ensures .1) (record { calls = rw (← n) (c4 .put-call .ensures); turned = rw (← n) (c5 .put-turn .ensures) }),
     )))

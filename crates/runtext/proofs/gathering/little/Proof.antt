@@ -3,10 +3,10 @@ use borrow.Author.Needs.{needs}
 use native.Mathlib.Nat.{sub-zero}
 use Rattle.octets.proofs.Bytes.{length-bytes}
 use Rattle.runtext.proofs.Lines.{byte-more}
-use mathlib.Core.Path.{_≡_, refl}
+use mathlib.Core.Path.{_≡_}
 use Prim.Native.Nat.{_-_, _≤_}
 use native.Mathlib.Omega.{arith}
-use lib.ListN.{length, take, drop}
+use lib.ListN.{take, drop}
 use Rattle.octets.specs.Bytes.{bytes}
 use Rattle.script.specs.Wrote.{Wrote}
 use Rattle.script.proofs.Writes.{still, same-length, one-more, all-there}
@@ -28,6 +28,10 @@ little-spec =
     (λ c κs. search needs)
     (λ c. omega arith)
     (λ c. omega arith)
-    (λ c. let l = c .before .before .before .before .before .loop in let a = c .before .before .before .before .before .before .before .args in let s = byte-more (a .k) (a .x) (l .i) (l .y) (search needs) (l .inv .1 .0) in (omega arith, (s .rest, one-more (bytes (a .k) (a .x)) (l .i) (rw length-bytes (search needs)) (l .inv .1 .1) (rw (s .here) (c .before .before .put .ensures)))))
+    (λ c.
+    let c3 = c .before .before in
+    let c2 = c3 .before .before .before in
+    let c1 = c2 .before .before in
+    let l = c2 .loop in let a = c1 .args in let s = byte-more (a .k) (a .x) (l .i) (l .y) (search needs) (l .inv .1 .0) in (omega arith, (s .rest, one-more (bytes (a .k) (a .x)) (l .i) (rw length-bytes (search needs)) (l .inv .1 .1) (rw (s .here) (c3 .put .ensures)))))
     (λ c. same-length (c .before .loop .inv .1 .1))
     (λ c. all-there (bytes (c .before .before .before .args .k) (c .before .before .before .args .x)) (c .before .loop .i) (rw length-bytes (c .loop-test .left)) (c .before .loop .inv .1 .1)))

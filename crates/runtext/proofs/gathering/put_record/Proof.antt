@@ -15,4 +15,10 @@ put-record-spec =
     (λ c κs. search needs)
     (λ c κs. search needs)
     (λ c. search needs)
-    (λ c. andThen (andThen (andThen (andThen (c .before .before .before .before .before .before .before .before .before .before .before .before .before .before .before .before .before .before .little .ensures) (c .before .before .before .before .before .before .before .before .before .before .before .before .before .before .little2 .ensures)) (c .before .before .before .before .before .before .before .before .before .before .little3 .ensures)) (c .before .before .before .before .before .before .little4 .ensures)) (c .before .before .little5 .ensures)))
+    (λ c.
+    let c5 = c .before .before in
+    let c4 = c5 .before .before .before .before in
+    let c3 = c4 .before .before .before .before in
+    let c2 = c3 .before .before .before .before in
+    let c1 = c2 .before .before .before .before in
+    andThen (andThen (andThen (andThen (c1 .little .ensures) (c2 .little2 .ensures)) (c3 .little3 .ensures)) (c4 .little4 .ensures)) (c5 .little5 .ensures)))

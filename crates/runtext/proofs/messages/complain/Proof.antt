@@ -19,4 +19,11 @@ complain-spec =
     (λ c κs. search needs)
     (λ c κs. search needs)
     (λ c. search needs)
-    (λ c. simp (sym (c .before .before .before .before .before .before .before .before .before .before .before .before .before .before .before .before .narrow .ensures)) (andThen (andThen (andThen (andThen (c .before .before .before .before .before .before .before .before .before .before .before .before .before .before .before .before .before .before .before .before .word .ensures) (c .before .before .before .before .before .before .before .before .before .before .before .before .before .before .before .decimal .ensures)) (c .before .before .before .before .before .before .before .before .before .before .word2 .ensures)) (c .before .before .before .before .before .before .put-words .ensures)) (c .before .before .put .ensures))))
+    (λ c.
+    let c6 = c .before .before in
+    let c5 = c6 .before .before .before .before in
+    let c4 = c5 .before .before .before .before in
+    let c3 = c4 .before .before .before .before .before in
+    let c2 = c3 .before in
+    let c1 = c2 .before .before .before .before in
+    simp (sym (c2 .narrow .ensures)) (andThen (andThen (andThen (andThen (c1 .word .ensures) (c3 .decimal .ensures)) (c4 .word2 .ensures)) (c5 .put-words .ensures)) (c6 .put .ensures))))

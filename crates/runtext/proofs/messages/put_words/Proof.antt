@@ -52,4 +52,7 @@ put-words-spec =
     (λ c. search needs)
     (λ c. simp (c .before .before .before .before .before .match .keys10) (c .before .before .word10 .ensures))
     (λ c. search needs)
-    (λ c. simp (ne-eqb _ _ (c .before .before .before .before .before .match .rest .1), ne-eqb _ _ (c .before .before .before .before .before .match .rest .0 .1), ne-eqb _ _ (c .before .before .before .before .before .match .rest .0 .0 .1), ne-eqb _ _ (c .before .before .before .before .before .match .rest .0 .0 .0 .1), ne-eqb _ _ (c .before .before .before .before .before .match .rest .0 .0 .0 .0 .1), ne-eqb _ _ (c .before .before .before .before .before .match .rest .0 .0 .0 .0 .0 .1), ne-eqb _ _ (c .before .before .before .before .before .match .rest .0 .0 .0 .0 .0 .0 .1), ne-eqb _ _ (c .before .before .before .before .before .match .rest .0 .0 .0 .0 .0 .0 .0 .1), ne-eqb _ _ (c .before .before .before .before .before .match .rest .0 .0 .0 .0 .0 .0 .0 .0 .1), ne-eqb _ _ (c .before .before .before .before .before .match .rest .0 .0 .0 .0 .0 .0 .0 .0 .0 .1)) (c .before .before .word11 .ensures)))
+    (λ c.
+    let c2 = c .before .before in
+    let c1 = c2 .before .before .before in
+    simp (ne-eqb _ _ (c1 .match .rest .1), ne-eqb _ _ (c1 .match .rest .0 .1), ne-eqb _ _ (c1 .match .rest .0 .0 .1), ne-eqb _ _ (c1 .match .rest .0 .0 .0 .1), ne-eqb _ _ (c1 .match .rest .0 .0 .0 .0 .1), ne-eqb _ _ (c1 .match .rest .0 .0 .0 .0 .0 .1), ne-eqb _ _ (c1 .match .rest .0 .0 .0 .0 .0 .0 .1), ne-eqb _ _ (c1 .match .rest .0 .0 .0 .0 .0 .0 .0 .1), ne-eqb _ _ (c1 .match .rest .0 .0 .0 .0 .0 .0 .0 .0 .1), ne-eqb _ _ (c1 .match .rest .0 .0 .0 .0 .0 .0 .0 .0 .0 .1)) (c2 .word11 .ensures)))

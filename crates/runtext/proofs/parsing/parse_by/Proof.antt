@@ -24,19 +24,33 @@ parse-by-spec =
     (λ c κs. search needs)
     (λ c. search needs)
     (λ c. search needs)
-    (λ c. let h = c .before .before .before .before .before .before .before .heaped .ensures in refused (c .before .before .before .before .before .before .before .before .before .before .before .before .before .before .args .text .now) _ _ _ (h .0 .0) (c .before .lacking .ensures ∙ ap lacking (h .0 .1)) (c .if1 .taken))
+    (λ c.
+    let c2 = c .before .before .before .before .before .before .before in
+    let c1 = c2 .before .before .before .before .before .before .before in
+    let h = c2 .heaped .ensures in refused (c1 .args .text .now) _ _ _ (h .0 .0) (c .before .lacking .ensures ∙ ap lacking (h .0 .1)) (c .if1 .taken))
     (λ c. search needs)
     (λ c. search needs)
-    (λ c. omega (arith, front-ends _ (c .before .before .before .before .before .before .before .before .heaped .ensures .1 .calls) (table-row (c .before .before .before .before .before .before .before .before .before .before .before .before .before .before .before))))
+    (λ c.
+    let c2 = c .before .before .before .before .before .before .before .before in
+    let c1 = c2 .before .before .before .before .before .before .before in
+    omega (arith, front-ends _ (c2 .heaped .ensures .1 .calls) (table-row c1)))
     (λ c. search needs)
     (λ c. search needs)
-    (λ c. omega (arith, front-ends _ (c .before .before .before .before .before .before .before .before .before .before .heaped .ensures .1 .turned) (turns-row (c .before .before .before .before .before .before .before .before .before .before .before .before .before .before .before .before .before))))
+    (λ c.
+    let c2 = c .before .before .before .before .before .before .before .before .before .before in
+    let c1 = c2 .before .before .before .before .before .before .before in
+    omega (arith, front-ends _ (c2 .heaped .ensures .1 .turned) (turns-row c1)))
     (λ c κs. search needs)
     (λ c. search needs)
     (λ c. search needs)
     (λ c. search needs)
     (λ c.
-    let h = c .before .before .before .before .before .before .before .before .before .before .before .before .before .before .before .heaped in
+    let c5 = c .before .before in
+    let c4 = c5 .before .before .before .before .before .before in
+    let c3 = c4 .before in
+    let c2 = c3 .before .before .before .before .before .before in
+    let c1 = c2 .before .before .before .before .before .before .before in
+    let h = c2 .heaped in
     let f = h .ensures .1 in
-    taken-from (c .before .before .before .before .before .before .before .before .before .before .before .before .before .before .before .before .before .before .before .before .before .before .args .text .now) _ _ _ (h .result .table) (h .result .turns) (h .result .draft) (h .ensures .0 .1) (sym (c .before .before .before .before .before .before .before .before .before .lacking .ensures) ∙ c .before .before .before .before .before .before .before .before .if1 .left)
-    (front _ (f .calls) (table-row (c .before .before .before .before .before .before .before .before .before .before .before .before .before .before .before .before .before .before .before .before .before .before))) (front _ (f .turned) (turns-row (c .before .before .before .before .before .before .before .before .before .before .before .before .before .before .before .before .before .before .before .before .before .before))) _ _ (c .before .before .write .ensures)))
+    taken-from (c1 .args .text .now) _ _ _ (h .result .table) (h .result .turns) (h .result .draft) (h .ensures .0 .1) (sym (c3 .lacking .ensures) ∙ c4 .if1 .left)
+    (front _ (f .calls) (table-row c1)) (front _ (f .turned) (turns-row c1)) _ _ (c5 .write .ensures)))

@@ -14,4 +14,9 @@ put-call-spec =
     (λ c κs. search needs)
     (λ c κs. search needs)
     (λ c. search needs)
-    (λ c. andThen (andThen (andThen (c .before .before .before .before .before .before .before .before .before .before .before .before .before .before .decimal .ensures) (c .before .before .before .before .before .before .before .before .before .before .put-kind .ensures)) (c .before .before .before .before .before .before .put-values .ensures)) (c .before .before .put .ensures)))
+    (λ c.
+    let c4 = c .before .before in
+    let c3 = c4 .before .before .before .before in
+    let c2 = c3 .before .before .before .before in
+    let c1 = c2 .before .before .before .before in
+    andThen (andThen (andThen (c1 .decimal .ensures) (c2 .put-kind .ensures)) (c3 .put-values .ensures)) (c4 .put .ensures)))

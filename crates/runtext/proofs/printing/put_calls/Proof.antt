@@ -30,6 +30,11 @@ put-calls-spec =
     (λ c κs. search needs)
     (λ c κs. search needs)
     (λ c. omega arith)
-    (λ c. let l = c .before .before .before .before .before .before .loop in (omega arith, (l .inv .1 .0, call-more (c .before .before .before .before .before .before .before .before .before .args .table .now) (l .i) (c .before .before .before .before .call-at .result) (c .before .before .before .before .call-at .ensures) (l .inv .1 .1) (c .before .before .put-call .ensures))))
+    (λ c.
+    let c4 = c .before .before in
+    let c3 = c4 .before .before in
+    let c2 = c3 .before .before in
+    let c1 = c2 .before .before .before in
+    let l = c2 .loop in (omega arith, (l .inv .1 .0, call-more (c1 .args .table .now) (l .i) (c3 .call-at .result) (c3 .call-at .ensures) (l .inv .1 .1) (c4 .put-call .ensures))))
     (λ c. same-length (c .before .loop .inv .1 .1))
     (λ c. let l = c .before .loop in let e : l .i ≡ records (c .before .before .before .before .args .table .now) = omega (arith, l .inv .1 .0, c .loop-test .left) in rw e at (l .inv .1 .1)))

@@ -17,4 +17,10 @@ put-head-spec =
     (λ c κs. search needs)
     (λ c κs. search needs)
     (λ c. search needs)
-    (λ c. andThen (andThen (andThen (andThen (c .before .before .before .before .before .before .before .before .before .before .before .before .before .before .before .before .before .before .before .word .ensures) (c .before .before .before .before .before .before .before .before .before .before .before .before .before .before .before .decimal .ensures)) (c .before .before .before .before .before .before .before .before .before .before .word2 .ensures)) (c .before .before .before .before .before .before .decimal2 .ensures)) (c .before .before .put .ensures)))
+    (λ c.
+    let c5 = c .before .before in
+    let c4 = c5 .before .before .before .before in
+    let c3 = c4 .before .before .before .before in
+    let c2 = c3 .before .before .before .before .before in
+    let c1 = c2 .before .before .before .before in
+    andThen (andThen (andThen (andThen (c1 .word .ensures) (c2 .decimal .ensures)) (c3 .word2 .ensures)) (c4 .decimal2 .ensures)) (c5 .put .ensures)))

@@ -20,4 +20,7 @@ put-kind-spec =
     (λ c. search needs)
     (λ c. simp (c .before .before .before .before .before .match .keys2) (c .before .before .word2 .ensures))
     (λ c. search needs)
-    (λ c. simp (ne-eqb _ _ (c .before .before .before .before .before .match .rest .0 .1), ne-eqb _ _ (c .before .before .before .before .before .match .rest .1)) (c .before .before .word3 .ensures)))
+    (λ c.
+    let c2 = c .before .before in
+    let c1 = c2 .before .before .before in
+    simp (ne-eqb _ _ (c1 .match .rest .0 .1), ne-eqb _ _ (c1 .match .rest .1)) (c2 .word3 .ensures)))

@@ -1,6 +1,6 @@
 -- The loop keeps: the turns so far are written.
 use borrow.Author.Needs.{needs}
-use mathlib.Core.Path.{_≡_, refl}
+use mathlib.Core.Path.{_≡_}
 use Prim.Native.Nat.{_-_, _≤_}
 use native.Mathlib.Omega.{arith}
 use lib.ListN.{length}
@@ -29,6 +29,10 @@ put-rows-spec =
     (λ c κs. search needs)
     (λ c. search needs)
     (λ c. omega arith)
-    (λ c. let l = c .before .before .before .before .before .loop in (omega arith, turn-more (c .before .before .before .before .before .before .before .before .args .turns .now) (l .i) (l .inv .1) (c .before .before .put-turn .ensures)))
+    (λ c.
+    let c3 = c .before .before in
+    let c2 = c3 .before .before .before in
+    let c1 = c2 .before .before .before in
+    let l = c2 .loop in (omega arith, turn-more (c1 .args .turns .now) (l .i) (l .inv .1) (c3 .put-turn .ensures)))
     (λ c. same-length (c .before .loop .inv .1))
     (λ c. let l = c .before .loop in let e : l .i ≡ length (c .before .before .before .before .args .turns .now) = omega (arith, l .inv .0, c .loop-test .left) in rw e at (l .inv .1)))

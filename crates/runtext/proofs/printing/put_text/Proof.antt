@@ -13,4 +13,8 @@ put-text-spec =
     (λ c κs. search needs)
     (λ c κs. search needs)
     (λ c. search needs)
-    (λ c. andThen (andThen (c .before .before .before .before .before .before .before .before .before .before .put-head .ensures) (c .before .before .before .before .before .before .put-calls .ensures)) (c .before .before .put-turns .ensures)))
+    (λ c.
+    let c3 = c .before .before in
+    let c2 = c3 .before .before .before .before in
+    let c1 = c2 .before .before .before .before in
+    andThen (andThen (c1 .put-head .ensures) (c2 .put-calls .ensures)) (c3 .put-turns .ensures)))

@@ -15,7 +15,17 @@ put-turn-spec =
     (λ c. search needs)
     (λ c κs. search needs)
     (λ c. search needs)
-    (λ c. simp (c .before .before .before .before .if1 .taken, sym (c .before .before .before .before .before .before .before .before .wide .ensures)) (andThen (c .before .before .before .before .before .before .before .decimal .ensures) (c .before .before .put .ensures)))
+    (λ c.
+    let c4 = c .before .before in
+    let c3 = c4 .before .before in
+    let c2 = c3 .before .before .before in
+    let c1 = c2 .before in
+    simp (c3 .if1 .taken, sym (c1 .wide .ensures)) (andThen (c2 .decimal .ensures) (c4 .put .ensures)))
     (λ c κs. search needs)
     (λ c. search needs)
-    (λ c. simp (c .before .before .before .before .if1 .left, sym (c .before .before .before .before .before .before .before .before .wide .ensures)) (andThen (c .before .before .before .before .before .before .before .decimal .ensures) (c .before .before .put2 .ensures))))
+    (λ c.
+    let c4 = c .before .before in
+    let c3 = c4 .before .before in
+    let c2 = c3 .before .before .before in
+    let c1 = c2 .before in
+    simp (c3 .if1 .left, sym (c1 .wide .ensures)) (andThen (c2 .decimal .ensures) (c4 .put2 .ensures))))

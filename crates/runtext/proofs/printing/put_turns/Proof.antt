@@ -16,4 +16,8 @@ put-turns-spec =
     (λ c κs. search needs)
     (λ c κs. search needs)
     (λ c. search needs)
-    (λ c. simp (ne-eqb _ _ (c .before .before .before .before .before .before .before .before .before .if1 .left)) (andThen (c .before .before .before .before .before .before .word .ensures) (c .before .before .put-rows .ensures))))
+    (λ c.
+    let c3 = c .before .before in
+    let c2 = c3 .before .before .before .before in
+    let c1 = c2 .before .before .before in
+    simp (ne-eqb _ _ (c1 .if1 .left)) (andThen (c2 .word .ensures) (c3 .put-rows .ensures))))

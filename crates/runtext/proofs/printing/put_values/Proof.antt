@@ -17,4 +17,10 @@ put-values-spec =
     (λ c κs. search needs)
     (λ c κs. search needs)
     (λ c. search needs)
-    (λ c. simp (ne-eqb _ _ (c .before .before .before .before .before .before .before .before .before .before .before .before .before .before .before .before .if1 .left)) (andThen (andThen (andThen (c .before .before .before .before .before .before .before .before .before .before .before .before .before .before .put .ensures) (c .before .before .before .before .before .before .before .before .before .before .decimal .ensures)) (c .before .before .before .before .before .before .put2 .ensures)) (c .before .before .decimal2 .ensures))))
+    (λ c.
+    let c5 = c .before .before in
+    let c4 = c5 .before .before .before .before in
+    let c3 = c4 .before .before .before .before in
+    let c2 = c3 .before .before .before .before in
+    let c1 = c2 .before .before in
+    simp (ne-eqb _ _ (c1 .if1 .left)) (andThen (andThen (andThen (c2 .put .ensures) (c3 .decimal .ensures)) (c4 .put2 .ensures)) (c5 .decimal2 .ensures))))

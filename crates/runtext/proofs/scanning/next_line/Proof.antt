@@ -1,4 +1,3 @@
-use borrow.Author.Needs.{needs}
 use native.Mathlib.Omega.{arith}
 use Rattle.runtext.proofs.Numbers.{line-stays, line-grows, line-counts}
 use Rattle.runtext.proofs.scanning.next_line.Statement.{statement}

@@ -17,10 +17,25 @@ step-on-spec =
     (λ c. simp (ne-eqb _ _ (c .before .if1 .left), c .if2 .taken))
     (λ c κs. search needs)
     (λ c κs. search needs)
-    (λ c. simp (ne-eqb _ _ (c .before .before .before .before .if1 .left), c .before .before .before .if2 .left, eq-eqb _ _ (c .before .before .if3 .taken), c .between2 .ensures, c .before .word-ended .ensures))
+    (λ c.
+    let c3 = c .before .before in
+    let c2 = c3 .before in
+    let c1 = c2 .before in
+    simp (ne-eqb _ _ (c1 .if1 .left), c2 .if2 .left, eq-eqb _ _ (c3 .if3 .taken), c .between2 .ensures, c .before .word-ended .ensures))
     (λ c κs. search needs)
     (λ c κs. search needs)
     (λ c κs. search needs)
-    (λ c. simp (ne-eqb _ _ (c .before .before .before .before .before .before .if1 .left), c .before .before .before .before .before .if2 .left, ne-eqb _ _ (c .before .before .before .before .if3 .left), sym (c .before .before .before .is-blank .ensures) ∙ c .before .before .if4 .taken, c .between3 .ensures, c .before .word-ended2 .ensures))
+    (λ c.
+    let c5 = c .before .before in
+    let c4 = c5 .before in
+    let c3 = c4 .before in
+    let c2 = c3 .before in
+    let c1 = c2 .before in
+    simp (ne-eqb _ _ (c1 .if1 .left), c2 .if2 .left, ne-eqb _ _ (c3 .if3 .left), sym (c4 .is-blank .ensures) ∙ c5 .if4 .taken, c .between3 .ensures, c .before .word-ended2 .ensures))
     (λ c κs. search needs)
-    (λ c. simp (ne-eqb _ _ (c .before .before .before .before .before .if1 .left), c .before .before .before .before .if2 .left, ne-eqb _ _ (c .before .before .before .if3 .left), sym (c .before .before .is-blank .ensures) ∙ c .before .if4 .left, c .grown .ensures)))
+    (λ c.
+    let c4 = c .before .before in
+    let c3 = c4 .before in
+    let c2 = c3 .before in
+    let c1 = c2 .before in
+    simp (ne-eqb _ _ (c1 .if1 .left), c2 .if2 .left, ne-eqb _ _ (c3 .if3 .left), sym (c4 .is-blank .ensures) ∙ c .before .if4 .left, c .grown .ensures)))

@@ -1,4 +1,3 @@
-use borrow.Author.Needs.{needs}
 use native.Mathlib.Omega.{arith}
 use Rattle.runtext.proofs.Numbers.{letter}
 use Rattle.runtext.proofs.words.code_more.Statement.{statement}

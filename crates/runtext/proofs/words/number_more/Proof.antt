@@ -1,4 +1,3 @@
-use borrow.Author.Needs.{needs}
 use native.Mathlib.Omega.{arith}
 use Rattle.runtext.proofs.Numbers.{digit}
 use Rattle.runtext.proofs.words.number_more.Statement.{statement}
