@@ -6,3 +6,5 @@ pub mod After
 pub mod Loop
 pub mod Files
 pub mod Start
+pub mod Clears
+pub mod Traces

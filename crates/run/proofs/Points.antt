@@ -13,15 +13,20 @@ use lib.Seq.{take-suc-set}
 use Rattle.run.specs.Rows.{Rows, rows, enterCall, allEnterCalls, callsOf, waiters, pointed, CallsWithin, Fits}
 use Rattle.rules.proofs.Facts.{either-way}
 
+most : (l : List ℕ) → pointed l ≤ length l
+unfolding pointed
+most [] = omega arith
+most (q ∷ qs) = either-way (eqb q 0) (λ t. rw t (omega (arith, most qs))) (λ t. rw t (omega (arith, most qs)))
+
+-- no more are listed than there are places
+pub few-listed : {point list : List ℕ} {listed turn : ℕ} → Fits point list listed turn → listed ≤ 1025
+few-listed {point} f = omega (arith, f .all, f .points, most point)
+
 -- where a call has no point there is room for another
 pub room : (point : List ℕ) (c : ℕ) → c < length point → getD point c 0 ≡ 0 → pointed point < length point
 unfolding pointed
 room [] c h e = absurd (not-suc-le-zero h)
 room (p ∷ ps) zero h e = rw (eq-eqb p 0 e) (omega (arith, most ps))
-  where
-    most : (l : List ℕ) → pointed l ≤ length l
-    most [] = omega arith
-    most (q ∷ qs) = either-way (eqb q 0) (λ t. rw t (omega (arith, most qs))) (λ t. rw t (omega (arith, most qs)))
 room (p ∷ ps) (suc c) h e =
     let r = room ps c (le-of-suc-le-suc h) e in
     either-way (eqb p 0) (λ t. rw t (omega arith)) (λ t. rw t (omega arith))

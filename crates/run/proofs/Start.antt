@@ -120,9 +120,10 @@ module _ (file : List ℕ) (well : readOf file .refused ≡ 0) (next₀ head₀ 
 
   -- what the loop leaves is the file's run
   through : (r : Drove) (head′ latest′ own′ told′ point′ list′ : List ℕ)
-      → Driven w (tableOf file) (turnsOf file) head latest own told point list r head′ latest′ own′ told′ point′ list′ → Ran file r own′ told′ point′ list′
+      → Driven w (tableOf file) (turnsOf file) head latest own told point list r head′ latest′ own′ told′ point′ list′ → r .tally .listed ≤ 1025
+      → Ran file r own′ told′ point′ list′
   unfolding Driven
-  through r head′ latest′ own′ told′ point′ list′ d =
+  through r head′ latest′ own′ told′ point′ list′ d room =
       let e : state (r .bench) (length (turnsOf file)) (bookOf head′ latest′ own′ told′ point′ list′ (r .tally)) ≡ runOfFile file =
       d ∙ ap (λ b. runFrom (tableOf file) (state w 0 b) (turnsOf file)) empty
       ∙ ap (λ m. runFrom (tableOf file) (state (m .bench) 0 (emptyBook (tableOf file))) (turnsOf file)) (sym is-fresh) in
@@ -135,6 +136,8 @@ module _ (file : List ℕ) (well : readOf file .refused ≡ 0) (next₀ head₀ 
         idle = ap (λ s. s .book .idle) e;
         begun = ap (λ s. s .book .begun) e;
         ended = ap (λ s. s .book .ended) e;
+        turns = ap (λ s. s .turns) e;
+        room = room;
       }
 
   -- of the bench and the parts that the run was given
@@ -143,5 +146,6 @@ module _ (file : List ℕ) (well : readOf file .refused ≡ 0) (next₀ head₀ 
     starts = rw (same, calls, moves) from-here
 
     pub ran-through : (r : Drove) (head′ latest′ own′ told′ point′ list′ : List ℕ)
-        → Driven w′ table turns head latest own told point list r head′ latest′ own′ told′ point′ list′ → Ran file r own′ told′ point′ list′
-    ran-through r head′ latest′ own′ told′ point′ list′ d = through r head′ latest′ own′ told′ point′ list′ (rw (same, calls, moves) at d)
+        → Driven w′ table turns head latest own told point list r head′ latest′ own′ told′ point′ list′ → r .tally .listed ≤ 1025
+        → Ran file r own′ told′ point′ list′
+    ran-through r head′ latest′ own′ told′ point′ list′ d room = through r head′ latest′ own′ told′ point′ list′ (rw (same, calls, moves) at d) room

@@ -80,3 +80,5 @@ pub record Ran (file : List ℕ) (r : Drove) (own told point list : List ℕ) : 
   pub idle : r .tally .idle ≡ runOfFile file .book .idle
   pub begun : r .tally .begun ≡ runOfFile file .book .begun
   pub ended : r .tally .ended ≡ runOfFile file .book .ended
+  pub turns : length (turnsOf file) ≡ runOfFile file .turns
+  pub room : r .tally .listed ≤ 1025

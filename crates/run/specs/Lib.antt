@@ -3,3 +3,4 @@ pub mod Rows
 pub mod Book
 pub mod Run
 pub mod Drive
+pub mod Trace

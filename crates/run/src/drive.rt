@@ -1,6 +1,7 @@
 // The run loop: it keeps its own bench in place, takes what a turn reaches, moves it and puts it back, and keeps the book.
 // It assumes a sound bench, good turns and good calls, and keeps the bench sound, so that no turn tests it.
 ghost use mathlib.Core.Path.{_≡_};
+ghost use Prim.Native.Nat.{_≤_};
 ghost use Rattle.run.specs.Drive.{Ready, Driven};
 use crate::Drove;
 use crate::Finish;
@@ -37,6 +38,7 @@ pub(crate) fn drive(
 ) -> Drove
     requires { ⌜ Ready w (now table) (now turns) (now next) (now head) (now latest) (now wait) (now own) (now told) (now point) (now list) ⌝ }
     ensures { λ r. ⌜ Driven w (now (table .entry)) (now (turns .entry)) (now (head .entry)) (now (latest .entry)) (now (own .entry)) (now (told .entry)) (now (point .entry)) (now (list .entry)) r (now (head .exit)) (now (latest .exit)) (now (own .exit)) (now (told .exit)) (now (point .exit)) (now (list .exit)) ⌝ }
+    ensures { λ r. ⌜ r .tally .listed ≤ 1025 ⌝ }
 {
     let n = w.n;
     let mut s = Tally {

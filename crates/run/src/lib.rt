@@ -1,5 +1,6 @@
 // A run of a file: calls out of its table are offered to the stations, turn by turn, and a book is kept of what took effect when.
-// Its modules: calls (which call is whose next), book (what is kept by stations and by calls), drive (the loop over the turns), ran (the run of a whole file).
+// Its modules: calls (which call is whose next), book (what is kept by stations and by calls), drive (the loop over the turns),
+// ran (the run of a whole file), rows (zeros), tracing (what the rooms above have of a run).
 use bench::Bench;
 use card::Claim;
 
@@ -7,6 +8,24 @@ mod book;
 mod calls;
 mod drive;
 mod ran;
+mod rows;
+mod tracing;
+
+pub use tracing::traced;
+
+// The numbers of a run: its turns, idle turns, calls begun, ended and listed, and V at its end. Refused, all but refused and k
+// are zero.
+pub struct Trace {
+    pub refused: u32,
+    pub k: usize,
+    pub turns: u32,
+    pub idle: u32,
+    pub begun: u32,
+    pub ended: u32,
+    pub listed: u32,
+    pub val: u32,
+    pub seq: u32,
+}
 
 // The counts of a run so far: idle turns, calls begun, calls ended, calls listed.
 pub struct Tally {

@@ -12,6 +12,7 @@ use Rattle.bench.proofs.Sounds.{within-at}
 use Rattle.run.specs.Calls.{offer, callFor}
 use Rattle.run.specs.Book.{bookOf}
 use Rattle.run.specs.Drive.{noTally, Driven}
+use Rattle.run.proofs.Points.{few-listed}
 use Rattle.run.proofs.Loop.{Kept, state, all-turned, few, inside, may-go, may-end, s-small, after-going, after-end}
 use Rattle.run.proofs.drive.drive.Statement.{statement}
 use Rattle.run.proofs.drive.drive.Tie as tie
@@ -150,4 +151,4 @@ drive-spec =
     (λ c. c .before .loop .inv .1 .rows .tolds ∙ sym (entry (c .before) .pre .rows .tolds))
     (λ c. c .before .loop .inv .1 .rows .fits .points ∙ sym (entry (c .before) .pre .rows .fits .points))
     (λ c. c .before .loop .inv .1 .rows .fits .places ∙ sym (entry (c .before) .pre .rows .fits .places))
-    (λ c. all-turned _ _ _ _ _ _ _ _ _ _ _ _ _ _ _ (c .before .loop .inv .1) (omega arith)))
+    (λ c. (all-turned _ _ _ _ _ _ _ _ _ _ _ _ _ _ _ (c .before .loop .inv .1) (omega arith), few-listed (c .before .loop .inv .1 .rows .fits))))

@@ -51,4 +51,4 @@ ran-spec =
     let d = c .before .before .before .before .before .before .before .before .before .before .before .before .before .before in
     let l = d .before .before .before .before .before .before .before .before .before .before .before .before .before in
     let s = entry l in
-    ran-through (s .args .file .now) (s .pre .0) _ _ _ _ _ _ _ _ _ _ (s .pre .1) (l .link .kept .1 .0) (l .link .kept .1 .1 .0) (linked l) _ _ _ (made l) (l .before .before .before .before .before .before .table .ensures) (l .before .before .before .before .before .turns .ensures) _ _ _ _ _ _ _ (d .drive .ensures)))
+    ran-through (s .args .file .now) (s .pre .0) _ _ _ _ _ _ _ _ _ _ (s .pre .1) (l .link .kept .1 .0) (l .link .kept .1 .1 .0) (linked l) _ _ _ (made l) (l .before .before .before .before .before .before .table .ensures) (l .before .before .before .before .before .turns .ensures) _ _ _ _ _ _ _ (d .drive .ensures .0) (d .drive .ensures .1)))
