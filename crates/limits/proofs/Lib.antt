@@ -1,0 +1,5 @@
+pub mod Elements
+pub mod Turns
+pub mod Books
+pub mod Files
+pub mod Runs

@@ -1,0 +1,32 @@
+-- Issue 4, point 4: the answers of a file's run, turn by turn, and that none is a refusal. Assumes nothing.
+use mathlib.Core.Path.{_≡_}
+use mathlib.Core.List.{List}
+use Prim.Native.Nat.{ℕ, _<_}
+use lib.ListN.{length, getD, take}
+use Rattle.octets.specs.Bytes.{AllBytes}
+use Rattle.runfile.specs.Reading.{readOf, tableOf, turnsOf}
+use Rattle.method.specs.declared.Answer.{Answer}
+use Rattle.method.specs.Record.{told}
+use Rattle.bench.specs.Record.{stationAt}
+use Rattle.bench.specs.Promise.{Turn, turnBy}
+use Rattle.run.specs.Calls.{offering, onOffer}
+use Rattle.run.specs.Run.{Run, runOf}
+
+-- what a turn of station i is given in the run s: the station, and its next call where it is at rest
+abbrev pub given : List ℕ → Run → ℕ → Turn
+given table s i = offering table i (onOffer (stationAt (s .bench) i .place) (getD (s .book .upcoming) i 0))
+
+-- the file's run after its first k turns
+abbrev pub runAfter : List ℕ → ℕ → Run
+runAfter file k = runOf (readOf file .x) (readOf file .n) (tableOf file) (take k (turnsOf file))
+
+-- the answer of the turn that comes then
+abbrev pub answerAt : List ℕ → ℕ → Answer
+answerAt file k =
+    let s = runAfter file k in
+    turnBy (s .bench) (given (tableOf file) s (getD (turnsOf file) k 0)) .answer
+
+-- of a file of bytes that reads well, no turn is refused: 9 to 13 are not reached
+unfoldable pub NoneRefused : Type 0
+NoneRefused =
+    (file : List ℕ) → AllBytes file → readOf file .refused ≡ 0 → (k : ℕ) → k < length (turnsOf file) → told (answerAt file k) .refusal ≡ 0
