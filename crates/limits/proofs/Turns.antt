@@ -1,4 +1,4 @@
--- A turn keeps the numbers of a bench within their limits, and so is what it answers. Assumes nothing.
+-- A turn keeps the numbers of a bench within their limits, and what it answers is within them too. Assumes nothing.
 use mathlib.Core.Path.{_≡_, refl}
 use mathlib.Core.Bool.{true, not}
 use mathlib.Core.List.{List}
