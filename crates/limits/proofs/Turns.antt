@@ -1,4 +1,4 @@
--- A turn keeps the numbers of a bench within their limits, and so is what it answers. Assumes nothing.
+-- A turn keeps the numbers of a bench within their limits, and what it answers is within them too. Assumes nothing.
 use mathlib.Core.Path.{_≡_, refl}
 use mathlib.Core.Bool.{true, not}
 use mathlib.Core.List.{List}
@@ -10,7 +10,7 @@ use lib.ListN.{getD, set}
 use Rattle.rules.proofs.Facts.{either-way}
 use Rattle.card.specs.declared.Halves.{Halves}
 use Rattle.card.specs.declared.Claim.{Claim}
-use Rattle.card.specs.Register.{halves, claim, atLeast, maxWrite, maxClaim, halfClaim}
+use Rattle.card.specs.Register.{halves, atLeast, maxWrite, maxClaim, halfClaim}
 use Rattle.method.specs.declared.Place.{Place}
 use Rattle.method.specs.declared.Place.the-variants.{Rest, At11, At12, At13, At14, At15, At16, At18, At19, At20}
 use Rattle.method.specs.declared.Station.{Station}
@@ -44,6 +44,10 @@ record Raised (v x : Halves) : Type 0 where
 abbrev Entries : List Halves → Type 0
 Entries a = (j : ℕ) → getD a j (halves 0 0) .second < valueLimit
 
+-- a set or a swap hands back its truth or a value
+hands : (kind truth value : ℕ) → truth ≤ 1 → value < valueLimit → handed kind truth value < valueLimit
+hands kind truth value h g = chosen (λ x. x < valueLimit) (eqb kind 2) g (omega arith)
+
 module _ (k : ℕ) (w : Bench) (f : Within k w) where
   later : (v : ℕ) → w .v .first ≤ v → (j : ℕ) → StationWithin (k + 1) v (stationAt w j)
   later v h j =
@@ -59,6 +63,9 @@ module _ (k : ℕ) (w : Bench) (f : Within k w) where
         result = result;
         own = own;
       }
+
+  ends-at-once : (result : ℕ) → result < valueLimit → Gives k w (turned (Ended result 1) w)
+  ends-at-once result h = unmoved (Ended result 1) h (omega arith)
 
   module _ (i : ℕ) where
     abbrev t : Station
@@ -102,13 +109,6 @@ module _ (k : ℕ) (w : Bench) (f : Within k w) where
         either-way (atLeast (t .saw .seq) (w .v .first))
         (λ e. rw e (record { low = leb-true (w .v .first) (t .saw .seq) e; high = stands .seq; value = stands .val }))
         (λ e. rw e (record { low = omega arith; high = omega arith; value = f .value }))
-
-    ends-at-once : (result : ℕ) → result < valueLimit → Gives k w (turned (Ended result 1) w)
-    ends-at-once result h = unmoved (Ended result 1) h (omega arith)
-
-    -- a set or a swap hands back its truth or a value
-    hands : (kind truth value : ℕ) → truth ≤ 1 → value < valueLimit → handed kind truth value < valueLimit
-    hands kind truth value h g = chosen (λ x. x < valueLimit) (eqb kind 2) g (omega arith)
 
     begins : (kind a b : ℕ) → a < valueLimit → b < valueLimit → Gives k w (row onBench Rest w i t kind a b)
     unfolding row

@@ -1,4 +1,4 @@
-use Rattle.limits.proofs.Runs.{none-refused}
+use Rattle.limits.proofs.Promised.{none-refused}
 use Rattle.limits.proofs.no_run_is_refused.Statement.{statement}
 use Rattle.limits.proofs.no_run_is_refused.Tie as tie
 

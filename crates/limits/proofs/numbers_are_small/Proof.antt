@@ -1,4 +1,4 @@
-use Rattle.limits.proofs.Runs.{small-numbers}
+use Rattle.limits.proofs.Promised.{small-numbers}
 use Rattle.limits.proofs.numbers_are_small.Statement.{statement}
 use Rattle.limits.proofs.numbers_are_small.Tie as tie
 

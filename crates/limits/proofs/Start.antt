@@ -1,0 +1,59 @@
+-- A run's start: a fresh bench and an empty book, within their limits. Assumes nothing.
+use mathlib.Core.Path.{_≡_, refl}
+use mathlib.Core.List.{List}
+use Prim.Native.Nat.{ℕ, zero, suc, _<_, _≤_}
+use native.Mathlib.Omega.{arith}
+use borrow.Author.Tests.{le-ltb, ne-eqb}
+use Rattle.card.specs.declared.Halves.{Halves}
+use Rattle.card.specs.Register.{halves}
+use Rattle.method.specs.Record.{told, resting}
+use Rattle.bench.specs.Record.{blank}
+use Rattle.bench.specs.Turn.{freshOf}
+use Rattle.runfile.specs.Layout.{records}
+use Rattle.run.specs.Rows.{pointed, CallsWithin}
+use Rattle.run.specs.Run.{firstCalls, emptyBook}
+use Rattle.limits.specs.Within.{valueLimit, StationWithin, Within}
+use Rattle.limits.proofs.Elements.{one-more, all-same}
+use Rattle.limits.proofs.Books.{BookWithin, call-after}
+
+pub fresh-bench : (x n : ℕ) → 1 ≤ n → n ≤ 32 → freshOf x n ≡ record { refused = 0; bench = blank x n }
+unfolding freshOf
+fresh-bench x n some few = rw (ne-eqb n 0 (λ q. omega arith), le-ltb 32 n few)
+
+pub blank-within : (x n : ℕ) → x < valueLimit → Within 0 (blank x n)
+blank-within x n h =
+    record {
+      version = omega arith;
+      value = h;
+      claim = omega arith;
+      entry = all-same (λ (e : Halves). e .second < valueLimit) 33 (halves 0 0) (omega arith);
+      station = all-same (StationWithin 0 0) 33 (resting 0) (omega arith);
+    }
+
+module _ (table : List ℕ) (few : records table ≤ 1024) where
+  firsts : (k : ℕ) → CallsWithin (firstCalls table k)
+  unfolding firstCalls
+  firsts zero j = omega arith
+  firsts (suc k) j = one-more (λ c. c < 1025) (firstCalls table k) _ 0 (call-after table k 0 few) (firsts k) j
+
+  pub empty-within : BookWithin 0 0 (emptyBook table)
+  unfolding pointed
+  empty-within =
+      record {
+        owns = refl;
+        tolds = refl;
+        upcoming = firsts 33;
+        latest = all-same (λ c. c < 1025) 33 0 (omega arith);
+        own = all-same (λ x. x ≤ 10) 1025 0 (omega arith);
+        told = all-same (λ x. x ≤ valueLimit) 1025 0 (omega arith);
+        rows = record {
+          points = refl;
+          listed = refl;
+          none = refl;
+          point = all-same (λ x. x ≤ 0) 1025 0 (omega arith);
+          calls = λ i. omega arith;
+        };
+        idle = omega arith;
+        begun = omega arith;
+        ended = omega arith;
+      }
