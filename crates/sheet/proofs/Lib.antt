@@ -1,0 +1,3 @@
+pub mod Listing
+pub mod Lengths
+pub mod Reports

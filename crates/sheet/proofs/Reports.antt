@@ -1,0 +1,108 @@
+-- What the report answers and leaves in the buffer, from the trace of the run. Assumes nothing.
+use mathlib.Core.Path.{_≡_, refl, _∙_, sym, ap}
+use mathlib.Core.Bool.{true}
+use mathlib.Core.List.{List, _++_}
+use Prim.Native.Nat.{ℕ, _<_, _≤_}
+use native.Mathlib.Omega.{arith}
+use borrow.Author.Tests.{eq-eqb, eqb-true, lt-ltb, le-ltb}
+use lib.Dec.{eqb}
+use lib.ListN.{length, getD}
+use Rattle.octets.specs.Bytes.{AllBytes}
+use Rattle.rules.proofs.Facts.{either-way, and-both}
+use Rattle.script.specs.Wrote.{Wrote}
+use Rattle.script.proofs.Writes.{size, in-front}
+use Rattle.runfile.specs.Reading.{readOf, tableOf}
+use Rattle.run.specs.declared.Trace.{Trace}
+use Rattle.run.specs.Drive.{runOfFile}
+use Rattle.run.specs.Trace.{padded, fit, traceBy, traceOf, lentRow, TracedTo}
+use Rattle.limits.specs.Small.{SmallNumbers}
+use Rattle.limits.proofs.Promised.{small-numbers}
+use Rattle.sheet.specs.Sheet.{Answers, lastText, sheetText}
+use Rattle.sheet.specs.Report.{reportText, reported, reportOf, reportedOn, ReportedTo, AlwaysEnough, ReportSettled}
+use Rattle.sheet.proofs.Listing.{lines-padded}
+use Rattle.sheet.proofs.Lengths.{length-report}
+
+-- rows of the length that is asked for
+pub rows-fit : (own told point list : List ℕ) → length own ≡ 1025 → length told ≡ 1025 → length point ≡ 1025 → length list ≡ 1025 → fit own told point list ≡ true
+rows-fit own told point list a b c d =
+    and-both (eq-eqb (length own) 1025 a) (and-both (eq-eqb (length told) 1025 b) (and-both (eq-eqb (length point) 1025 c) (eq-eqb (length list) 1025 d)))
+
+module _ (file out own told point list own′ told′ point′ list′ : List ℕ) (t : Trace) (f : fit own told point list ≡ true)
+    (e : TracedTo file own told point list t own′ told′ point′ list′) where
+  given : t ≡ traceOf file true
+  given = e .answered ∙ ap (traceOf file) f
+
+  -- the trace is the file's refusal
+  pub refused : (t .refused ≡ 0 → ⊥) → ReportedTo file out (reported (t .refused) (t .k) 0) out
+  unfolding reportOf reportedOn traceOf
+  refused h =
+      either-way (eqb (readOf file .refused) 0)
+      (λ b. absurd (h (ap (λ (t : Trace). t .refused) given ∙ rw b refl)))
+      (λ b.
+      let same : t .refused ≡ readOf file .refused = ap (λ (t : Trace). t .refused) given ∙ rw b refl in
+      let k : t .k ≡ readOf file .k = ap (λ (t : Trace). t .k) given ∙ rw b refl in
+      record { answered = simp (b, same, k); left = simp (b, b) })
+
+  -- or the file's run
+  module _ (z : t .refused ≡ 0) where
+    well : readOf file .refused ≡ 0
+    unfolding traceOf
+    well =
+        either-way (eqb (readOf file .refused) 0) (λ b. eqb-true (readOf file .refused) 0 b)
+        (λ b. sym (ap (λ (t : Trace). t .refused) given ∙ rw b refl) ∙ z)
+
+    numbers : t ≡ traceBy (runOfFile file)
+    unfolding traceOf
+    numbers = given ∙ rw (eq-eqb (readOf file .refused) 0 well) refl
+
+    left-in : (row before : List ℕ) → lentRow t row before ≡ row
+    left-in row before = rw (eq-eqb (t .refused) 0 z) refl
+
+    module _ (h : AllBytes file) where
+      pub answers : Answers told′
+      unfolding SmallNumbers
+      answers c = rw (e .tolds, left-in (runOfFile file .book .told) told) (small-numbers file h well .told c)
+
+      module _ (table : List ℕ) (g : table ≡ tableOf file) where
+        same-text : sheetText t table own′ told′ point′ list′ ≡ reportText file
+        unfolding reportText sheetText
+        same-text =
+            let book = runOfFile file .book in
+            rw (numbers, g, e .owns, e .tolds, e .points, e .lists, left-in (book .own) own, left-in (book .told) told, left-in (book .point) point, left-in (padded (book .list)) list)
+            (ap (λ l. l ++ lastText (traceBy (runOfFile file))) (lines-padded (tableOf file) (book .own) (book .told) (book .point) (book .list) (length (book .list))))
+
+        measured : {a b : List ℕ} {j : ℕ} → Wrote a b 0 j (sheetText t table own′ told′ point′ list′) → j ≡ length (reportText file)
+        measured w = let l = length-report file h well in size (rw same-text at w) (omega arith)
+
+        pub short : {a b : List ℕ} {j : ℕ} → Wrote a b 0 j (sheetText t table own′ told′ point′ list′) → length out < j → ReportedTo file out (reported 14 0 0) out
+        unfolding reportOf reportedOn
+        short w l =
+            let b = eq-eqb (readOf file .refused) 0 well in
+            let m = measured w in
+            let k = lt-ltb (length out) (length (reportText file)) (omega arith) in
+            record { answered = simp (b, k); left = simp (b, k) }
+
+        pub written : {a b after : List ℕ} {j k : ℕ} → Wrote a b 0 j (sheetText t table own′ told′ point′ list′) → j ≤ length out
+            → Wrote out after 0 k (sheetText t table own′ told′ point′ list′) → ReportedTo file out (reported 0 0 j) after
+        unfolding reportOf reportedOn
+        written w l v =
+            let b = eq-eqb (readOf file .refused) 0 well in
+            let m = measured w in
+            let h : length (reportText file) ≤ length out = omega arith in
+            let k = le-ltb (length out) (length (reportText file)) h in
+            record { answered = simp (b, k, m); left = simp (b, k) (in-front (rw same-text at v) h) }
+
+pub always-enough : AlwaysEnough
+unfolding AlwaysEnough reportOf
+always-enough file room h enough =
+    either-way (eqb (readOf file .refused) 0)
+    (λ b.
+    let z = eqb-true (readOf file .refused) 0 b in
+    let l = length-report file h z in
+    let k = le-ltb room (length (reportText file)) (omega arith) in
+    simp (b, k) (sym z))
+    (λ b. rw b)
+
+pub settled : ReportSettled
+unfolding ReportSettled
+settled file out a b c d v w = (v .answered ∙ sym (w .answered), v .left ∙ sym (w .left))

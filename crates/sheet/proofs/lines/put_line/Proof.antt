@@ -1,0 +1,28 @@
+use borrow.Author.Needs.{needs}
+use Rattle.script.proofs.Writes.{same-length, andThen}
+use Rattle.sheet.specs.Sheet.{lineText}
+use Rattle.sheet.proofs.lines.put_line.Statement.{statement}
+use Rattle.sheet.proofs.lines.put_line.Tie as tie
+
+wrote : tie.Need-returns
+unfolding lineText
+wrote c =
+    andThen (andThen (andThen (andThen (andThen (andThen (andThen (c .before .before .before .before .before .before .before .before .before .before .before .before .before .before .before .before .before .before .before .before .before .before .before .before .before .before .before .before .before .before .before .before .before .before .before .before .before .before .put-field .ensures) (c .before .before .before .before .before .before .before .before .before .before .before .before .before .before .before .before .before .before .before .before .before .before .before .before .before .before .before .before .before .before .before .before .before .before .put-field2 .ensures)) (c .before .before .before .before .before .before .before .before .before .before .before .before .before .before .before .before .before .before .before .before .before .before .before .before .before .before .before .before .before .before .put-field3 .ensures))
+    (andThen (c .before .before .before .before .before .before .before .before .before .before .before .before .before .before .before .before .before .before .before .before .before .before .before .before .before .before .put-kind .ensures) (c .before .before .before .before .before .before .before .before .before .before .before .before .before .before .before .before .before .before .before .before .before .before .put .ensures)))
+    (andThen (c .before .before .before .before .before .before .before .before .before .before .before .before .before .before .before .before .before .before .put-answer .ensures) (c .before .before .before .before .before .before .before .before .before .before .before .before .before .before .put2 .ensures))) (c .before .before .before .before .before .before .before .before .before .before .put-field4 .ensures)) (c .before .before .before .before .before .before .decimal .ensures)) (c .before .before .put3 .ensures)
+
+pub put-line-spec : {M : Type 1} → statement M
+put-line-spec =
+    tie.close
+    (tie.spec (λ c κs. search needs)
+    (λ c κs. search needs)
+    (λ c κs. search needs)
+    (λ c κs. search needs)
+    (λ c κs. search needs)
+    (λ c κs. search needs)
+    (λ c κs. search needs)
+    (λ c κs. search needs)
+    (λ c κs. search needs)
+    (λ c κs. search needs)
+    (λ c. same-length (wrote c))
+    wrote)

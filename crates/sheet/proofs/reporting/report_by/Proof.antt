@@ -1,0 +1,57 @@
+-- The rows that are lent fit, so the trace is the file's refusal or its run.
+use borrow.Author.Needs.{needs}
+use mathlib.Core.Path.{_≡_}
+use mathlib.Core.Bool.{true}
+use Rattle.octets.specs.Bytes.{AllBytes}
+use Rattle.run.specs.Trace.{fit}
+use Rattle.sheet.proofs.Reports.{rows-fit, refused, answers, short, written}
+use Rattle.sheet.proofs.reporting.report_by.Statement.{statement}
+use Rattle.sheet.proofs.reporting.report_by.Tie as tie
+
+fits : (s : tie.Start) → fit (s .args .own .now) (s .args .told .now) (s .args .point .now) (s .args .list .now) ≡ true
+fits s = rows-fit (s .args .own .now) (s .args .told .now) (s .args .point .now) (s .args .list .now) (s .pre .0) (s .pre .1 .0) (s .pre .1 .1 .0) (s .pre .1 .1 .1)
+
+abbrev first : tie.Else1 → tie.After-shared-slice-known
+first c = c .before .before .before .before .before .before .before .before .before .before .before .before .before .before .before .before .before .before .before .before
+
+bytes : (c : tie.Else1) → AllBytes (first c .before .args .file .now)
+bytes c i = first c .shared-slice-known .given i .fits
+
+pub report-by-spec : {M : Type 1} → statement M
+report-by-spec =
+    tie.close
+    (tie.spec (λ c κs. search needs)
+    (λ c. search needs)
+    (λ c. search needs)
+    (λ c. search needs)
+    (λ c. search needs)
+    (λ c.
+    let s = c .before .before .before .before .before .before .before .before .before .before .before .before .before .before .before .before .before .before .before .before .before in
+    refused (s .args .file .now) (s .args .out .now) (s .args .own .now) (s .args .told .now) (s .args .point .now) (s .args .list .now) _ _ _ _ _ (fits s) (c .before .before .before .before .before .before .before .before .before .before .traced .ensures) (c .if1 .taken))
+    (λ c κs. search needs)
+    (λ c. search needs)
+    (λ c κs.
+    let e = c .before .before .before .before .before .before in
+    let s = first e .before in
+    answers (s .args .file .now) (s .args .out .now) (s .args .own .now) (s .args .told .now) (s .args .point .now) (s .args .list .now) _ _ _ _ _ (fits s) (c .before .before .before .before .before .before .before .before .before .before .before .before .before .before .before .before .traced .ensures) (e .if1 .left) (bytes e))
+    (λ c. search needs)
+    (λ c. search needs)
+    (λ c. search needs)
+    (λ c. search needs)
+    (λ c.
+    let e = c .before .before .before .before .before .before .before .before .before in
+    let s = first e .before in
+    short (s .args .file .now) (s .args .out .now) (s .args .own .now) (s .args .told .now) (s .args .point .now) (s .args .list .now) _ _ _ _ _ (fits s) (c .before .before .before .before .before .before .before .before .before .before .before .before .before .before .before .before .before .before .before .traced .ensures) (e .if1 .left) (bytes e) _ (c .before .before .before .before .before .before .before .before .table .ensures) (c .before .before .put-sheet .ensures) (c .if2 .taken))
+    (λ c κs.
+    let e = c .before .before .before .before .before .before .before .before .before .before .before .before .before .before in
+    let s = first e .before in
+    answers (s .args .file .now) (s .args .out .now) (s .args .own .now) (s .args .told .now) (s .args .point .now) (s .args .list .now) _ _ _ _ _ (fits s) (c .before .before .before .before .before .before .before .before .before .before .before .before .before .before .before .before .before .before .before .before .before .before .before .before .traced .ensures) (e .if1 .left) (bytes e))
+    (λ c. search needs)
+    (λ c. search needs)
+    (λ c. search needs)
+    (λ c. search needs)
+    (λ c. search needs)
+    (λ c.
+    let e = c .before .before .before .before .before .before .before .before .before .before .before .before .before .before .before .before .before in
+    let s = first e .before in
+    written (s .args .file .now) (s .args .out .now) (s .args .own .now) (s .args .told .now) (s .args .point .now) (s .args .list .now) _ _ _ _ _ (fits s) (c .before .before .before .before .before .before .before .before .before .before .before .before .before .before .before .before .before .before .before .before .before .before .before .before .before .before .before .traced .ensures) (e .if1 .left) (bytes e) _ (c .before .before .before .before .before .before .before .before .before .before .before .before .before .before .before .before .table .ensures) (c .before .before .before .before .before .before .before .before .before .before .put-sheet .ensures) (c .before .before .before .before .before .before .before .before .if2 .left) (c .before .before .put-sheet2 .ensures)))

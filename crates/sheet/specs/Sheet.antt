@@ -1,0 +1,67 @@
+-- Document 01, "Report": a line for each listed call, and a last line. One space between fields, one newline after each line, decimal without leading zeros.
+-- Assumes nothing.
+use mathlib.Core.Bool.{cond, not}
+use mathlib.Core.List.{List, [], _∷_, _++_}
+use Prim.Native.Nat.{ℕ, zero, suc, _-_, _≤_}
+use lib.Dec.{eqb}
+use lib.ListN.{getD}
+use Rattle.script.specs.Quote.{quote}
+use Rattle.script.specs.Decimal.{decimal}
+use Rattle.runfile.specs.Layout.{callOf}
+use Rattle.run.specs.declared.Trace.{Trace}
+use Rattle.sheet.specs.declared.Line.{Line}
+
+abbrev pub newline : List ℕ
+newline = quote "\n"
+
+-- a field and the space after it
+abbrev pub spaced : List ℕ → List ℕ
+spaced text = text ++ quote " "
+
+abbrev pub field : ℕ → List ℕ
+field x = spaced (decimal x)
+
+unfoldable pub kindWord : ℕ → List ℕ
+kindWord kind = cond (eqb kind 0) (quote "read") (cond (eqb kind 1) (quote "set") (quote "swap"))
+
+-- true or false for set, a number for read and swap, `open` if not ended
+unfoldable pub answerWord : Line → List ℕ
+answerWord l =
+    cond (l .ended) (cond (eqb (l .kind) 1) (cond (eqb (l .answer) 0) (quote "false") (quote "true")) (decimal (l .answer))) (quote "open")
+
+-- list place, station, call number in the table, kind, answer, own turns so far, turn of its point
+unfoldable pub lineText : Line → List ℕ
+lineText l =
+    field (l .place) ++ field (l .station) ++ field (l .call) ++ spaced (kindWord (l .kind)) ++ spaced (answerWord l) ++ field (l .own) ++ decimal (l .point)
+    ++ newline
+
+-- the line of call c at a place of the list, from the call table and the book's rows; a call that has not ended has been told 0, any other its answer plus 1
+abbrev pub lineOf : List ℕ → List ℕ → List ℕ → List ℕ → ℕ → ℕ → Line
+lineOf table own told point place c =
+    record {
+      place = place;
+      station = callOf table c .station;
+      call = c;
+      kind = callOf table c .kind;
+      ended = not (eqb (getD told c 0) 0);
+      answer = getD told c 0 - 1;
+      own = getD own c 0;
+      point = getD point c 0;
+    }
+
+-- what was told is 0 or a 32-bit answer plus 1
+abbrev pub Answers : List ℕ → Type 0
+Answers told = (c : ℕ) → getD told c 0 ≤ 4294967296
+
+-- the first i lines
+unfoldable pub linesText : List ℕ → List ℕ → List ℕ → List ℕ → List ℕ → ℕ → List ℕ
+linesText table own told point list zero = []
+linesText table own told point list (suc i) =
+    linesText table own told point list i ++ lineText (lineOf table own told point (suc i) (getD list i 0))
+
+-- turns, idle turns, calls begun, calls ended, V.val, V.seq
+unfoldable pub lastText : Trace → List ℕ
+lastText t = field (t .turns) ++ field (t .idle) ++ field (t .begun) ++ field (t .ended) ++ field (t .val) ++ decimal (t .seq) ++ newline
+
+unfoldable pub sheetText : Trace → List ℕ → List ℕ → List ℕ → List ℕ → List ℕ → List ℕ
+sheetText t table own told point list = linesText table own told point list (t .listed) ++ lastText t

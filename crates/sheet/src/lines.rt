@@ -1,0 +1,168 @@
+// The lines of a report, written to a lent buffer as far as it goes.
+ghost use mathlib.Core.Path.{_≡_};
+ghost use Prim.Native.Nat.{_-_, _≤_};
+ghost use lib.ListN.{getD};
+ghost use Rattle.script.specs.Wrote.{Wrote};
+ghost use Rattle.sheet.specs.Sheet.{Answers, field, kindWord, answerWord, lineText, lineOf, linesText, lastText, sheetText};
+use crate::Line;
+use run::Trace;
+use runfile::call_at;
+use script::decimal;
+use script::put;
+use script::word;
+
+// A number and the space after it.
+fn put_field(out: &mut [u8], at: usize, x: u32) -> usize
+    ensures { λ r. ⌜ Wrote (now (out .entry)) (now (out .exit)) at r (field x) ⌝ }
+{
+    let o = decimal(out, at, x);
+    put(out, o, b' ')
+}
+
+fn put_kind(out: &mut [u8], at: usize, kind: u32) -> usize
+    ensures { λ r. ⌜ Wrote (now (out .entry)) (now (out .exit)) at r (kindWord kind) ⌝ }
+{
+    match kind {
+        0 => word(out, at, b"read"),
+        1 => word(out, at, b"set"),
+        _ => word(out, at, b"swap"),
+    }
+}
+
+fn put_answer(out: &mut [u8], at: usize, l: Line) -> usize
+    ensures { λ r. ⌜ Wrote (now (out .entry)) (now (out .exit)) at r (answerWord l) ⌝ }
+{
+    let ended = l.ended;
+    let answer = l.answer;
+    if !ended {
+        return word(out, at, b"open");
+    }
+    if l.kind != 1 {
+        return decimal(out, at, answer);
+    }
+    if answer == 0 {
+        return word(out, at, b"false");
+    }
+    word(out, at, b"true")
+}
+
+fn put_line(out: &mut [u8], at: usize, l: Line) -> usize
+    ensures { λ r. ⌜ Wrote (now (out .entry)) (now (out .exit)) at r (lineText l) ⌝ }
+{
+    let o1 = put_field(out, at, l.place);
+    let o2 = put_field(out, o1, l.station);
+    let o3 = put_field(out, o2, l.call);
+    let o4 = put_kind(out, o3, l.kind);
+    let o5 = put(out, o4, b' ');
+    let o6 = put_answer(out, o5, l);
+    let o7 = put(out, o6, b' ');
+    let o8 = put_field(out, o7, l.own);
+    let o9 = decimal(out, o8, l.point);
+    put(out, o9, b'\n')
+}
+
+// A number of a row, 0 past its end.
+fn cell(row: &[u32], i: usize) -> u32
+    ensures { λ r. ⌜ r ≡ getD (now (row .entry)) i 0 ⌝ }
+{
+    if i < row.len() {
+        return row[i];
+    }
+    0
+}
+
+fn wide_cell(row: &[u64], i: usize) -> u64
+    ensures { λ r. ⌜ r ≡ getD (now (row .entry)) i 0 ⌝ }
+{
+    if i < row.len() {
+        return row[i];
+    }
+    0
+}
+
+// The answer that was told; 0 where none was.
+fn answer_of(told: u64) -> u32
+    requires { ⌜ told ≤ 4294967296 ⌝ }
+    ensures { λ r. ⌜ r ≡ told - 1 ⌝ }
+{
+    if told == 0 {
+        return 0;
+    }
+    (told - 1) as u32
+}
+
+// Call c's line at a place of the list.
+fn line_of(table: &[u8], own: &[u32], told: &[u64], point: &[u32], place: u32, c: u32) -> Line
+    requires { ⌜ Answers (now told) ⌝ }
+    ensures { λ r. ⌜ r ≡ lineOf (now (table .entry)) (now (own .entry)) (now (told .entry)) (now (point .entry)) place c ⌝ }
+{
+    let at = c as usize;
+    let r = call_at(table, at);
+    let t = wide_cell(told, at);
+    let o = cell(own, at);
+    let p = cell(point, at);
+    let answer = answer_of(t);
+    Line {
+        place,
+        station: r.station,
+        call: c,
+        kind: r.kind,
+        ended: t != 0,
+        answer,
+        own: o,
+        point: p,
+    }
+}
+
+fn put_lines(
+    out: &mut [u8],
+    listed: u32,
+    table: &[u8],
+    own: &[u32],
+    told: &[u64],
+    point: &[u32],
+    list: &[u32],
+) -> usize
+    requires { ⌜ Answers (now told) ⌝ }
+    ensures { λ r. ⌜ Wrote (now (out .entry)) (now (out .exit)) 0 r (linesText (now (table .entry)) (now (own .entry)) (now (told .entry)) (now (point .entry)) (now (list .entry)) listed) ⌝ }
+{
+    let mut i: u32 = 0;
+    let mut o = 0;
+    while i < listed {
+        let c = cell(list, i as usize);
+        i = i + 1;
+        let l = line_of(table, own, told, point, i, c);
+        o = put_line(out, o, l);
+    }
+    o
+}
+
+fn put_last(out: &mut [u8], at: usize, t: Trace) -> usize
+    ensures { λ r. ⌜ Wrote (now (out .entry)) (now (out .exit)) at r (lastText t) ⌝ }
+{
+    let o1 = put_field(out, at, t.turns);
+    let o2 = put_field(out, o1, t.idle);
+    let o3 = put_field(out, o2, t.begun);
+    let o4 = put_field(out, o3, t.ended);
+    let o5 = put_field(out, o4, t.val);
+    let o6 = decimal(out, o5, t.seq);
+    put(out, o6, b'\n')
+}
+
+// The whole sheet, from the front of the buffer on.
+pub(crate) fn put_sheet(
+    out: &mut [u8],
+    t: Trace,
+    table: &[u8],
+    own: &[u32],
+    told: &[u64],
+    point: &[u32],
+    list: &[u32],
+) -> usize
+    requires { ⌜ Answers (now told) ⌝ }
+    ensures { λ r. ⌜ Wrote (now (out .entry)) (now (out .exit)) 0 r (sheetText t (now (table .entry)) (now (own .entry)) (now (told .entry)) (now (point .entry)) (now (list .entry))) ⌝ }
+{
+    let listed = t.listed;
+    let o = put_lines(out, listed, table, own, told, point, list);
+    put_last(out, o, t)
+}
