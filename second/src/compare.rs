@@ -1,0 +1,143 @@
+//! The comparison: random and damaged files through this program and through the bench's.
+
+use crate::counts::Counts;
+use crate::damage::{self, Sweep};
+use crate::fault;
+use crate::make;
+use crate::other::{top, Other};
+use crate::random::Random;
+use crate::report::{print, ENOUGH};
+use crate::run::run;
+use crate::runfile::read;
+use crate::texts::Texts;
+use crate::{check, search};
+
+/// About this many runs, and as many damaged files, go through the text programs.
+const TEXTS: u64 = 500;
+
+/// The first difference: what was compared, on which file, and both outputs.
+pub struct Difference {
+    pub what: String,
+    pub file: Vec<u8>,
+    pub own: Vec<u8>,
+    pub other: Vec<u8>,
+}
+
+impl Difference {
+    pub fn new(what: &str, file: &[u8], own: &[u8], other: &[u8]) -> Difference {
+        Difference { what: what.into(), file: file.into(), own: own.into(), other: other.into() }
+    }
+}
+
+pub struct Comparison {
+    other: Option<Other>,
+    texts: Texts,
+    pub counts: Counts,
+}
+
+impl Comparison {
+    pub fn new() -> Comparison {
+        Comparison { other: Other::find(), texts: Texts::find(), counts: Counts::default() }
+    }
+
+    /// The stored runs, then `runs` random runs and `damaged` damaged files.
+    pub fn all(&mut self, runs: u64, damaged: u64) -> Result<(), Difference> {
+        self.stored()?;
+        for seed in 0..runs {
+            let mut random = Random::new(seed);
+            let file = match seed % 1_000 {
+                998 => make::widest(),
+                999 => make::largest(&mut random),
+                _ => make::run(&mut random),
+            };
+            self.counts.runs += 1;
+            self.file(&file)?;
+            if seed % (runs / TEXTS).max(1) == 0 {
+                self.texts.file(&file, &mut random)?;
+            }
+        }
+        let mut sweep = Sweep::new(runs);
+        for seed in 0..damaged {
+            let mut random = Random::new(!seed);
+            let file = if seed % 2 == 0 { sweep.next() } else { damage::random(&mut random) };
+            self.counts.damaged += 1;
+            self.file(&file)?;
+            if seed % (damaged / TEXTS).max(1) == 0 {
+                self.texts.file(&file, &mut random)?;
+            }
+        }
+        Ok(())
+    }
+
+    /// R1 to R8 of runs/: the report, the text, and the run file that the text tells.
+    fn stored(&mut self) -> Result<(), Difference> {
+        for number in 1..=8 {
+            let part = |end| {
+                let path = top().join(format!("runs/r{number}.{end}"));
+                let told = |e| Difference::new(&format!("{}: {e}", path.display()), &[], &[], &[]);
+                std::fs::read(&path).map_err(told)
+            };
+            let (file, report, text) = (part("run")?, part("report")?, part("txt")?);
+            let own = self.file(&file)?;
+            if own != report {
+                return Err(Difference::new("stored report", &file, &own, &report));
+            }
+            let told = crate::parse::parse(&text).unwrap_or_default();
+            if told != file {
+                return Err(Difference::new("stored text", &text, &told, &file));
+            }
+            self.texts.file(&file, &mut Random::new(number))?;
+            self.counts.stored += 1;
+        }
+        Ok(())
+    }
+
+    /// One file: its report by both programs, and demand 3 of the run. Gives this program's report.
+    fn file(&mut self, file: &[u8]) -> Result<Vec<u8>, Difference> {
+        let own = self.own(file)?;
+        if let Some(other) = &mut self.other {
+            match other.report(file) {
+                Ok(theirs) if theirs == own => self.counts.reports += 1,
+                Ok(theirs) => return Err(Difference::new("report", file, &own, &theirs)),
+                Err(told) => return Err(Difference::new(&told, file, &own, &[])),
+            }
+        }
+        Ok(own)
+    }
+
+    /// This program's report, counted and held against demand 3.
+    fn own(&mut self, file: &[u8]) -> Result<Vec<u8>, Difference> {
+        let run_file = match read(file) {
+            Ok(good) => good,
+            Err(refusal) => {
+                self.counts.refused[refusal.number as usize] += 1;
+                return Ok(refusal.line().into_bytes());
+            }
+        };
+        let (book, machine) = run::<{ fault::NONE }>(&run_file);
+        let mut buffer = vec![0; ENOUGH];
+        let printed = print(&run_file, &book, &machine, &mut buffer);
+        buffer.truncate(printed.unwrap_or(0));
+        self.counts.take(&book);
+        let text = String::from_utf8_lossy(&buffer);
+        let trace = check::trace(&run_file, &book);
+        if let Err(told) = check::check(&run_file, &trace, &text) {
+            return Err(Difference::new(&format!("demand 3: {told}"), file, &buffer, &[]));
+        }
+        let begun: Vec<_> = trace.into_iter().flatten().collect();
+        if begun.len() <= search::SMALL {
+            self.counts.searched += 1;
+            if !search::some_order(run_file.x, machine.v.second, &begun) {
+                return Err(Difference::new("demand 3: no order at all", file, &buffer, &[]));
+            }
+        }
+        Ok(buffer)
+    }
+
+    /// The line of counts, and whether everything that should be compared could be.
+    pub fn line(&self) -> (String, bool) {
+        let way = self.other.as_ref().map_or("none", Other::name);
+        let text = format!("{} way {way} {}", self.counts.line(), self.texts.line());
+        (text, self.other.is_some() && self.texts.built())
+    }
+}

@@ -1,0 +1,129 @@
+//! The second program: document 01's report written a second time, and its comparison with the bench.
+
+mod card;
+mod check;
+mod compare;
+mod counts;
+mod damage;
+mod decorate;
+mod fault;
+mod faults;
+#[cfg(feature = "library")]
+mod library;
+mod machine;
+mod make;
+mod other;
+mod parse;
+mod random;
+mod report;
+mod run;
+mod runfile;
+mod search;
+#[cfg(test)]
+mod tests;
+mod text;
+mod texts;
+
+use compare::{Comparison, Difference};
+use random::Random;
+use std::io::{Read, Write};
+use std::process::ExitCode;
+
+const HELP: &str = "usage: second report < FILE      the report of a run file
+       second read < FILE        a run file as text
+       second write < TEXT       a text as a run file
+       second make SEED KIND     a random file: run, tiny, largest, widest, damaged or text
+       second compare [RUNS [DAMAGED]]   against the bench's programs
+       second faults [RUNS]      the planted faults
+";
+
+/// A good text has at most this many bytes, and every good run file fewer.
+const LONGEST: u64 = 262_143;
+
+fn main() -> ExitCode {
+    let words: Vec<String> = std::env::args().skip(1).collect();
+    let words: Vec<&str> = words.iter().map(String::as_str).collect();
+    let number = |at: usize, or: u64| words.get(at).map_or(Some(or), |word| word.parse().ok());
+    match (words.as_slice(), number(1, 20_000), number(2, 20_000)) {
+        (["report"], ..) => say(&report::output(&input())),
+        (["read"], ..) => match text::print(&input()) {
+            Ok(text) => say(text.as_bytes()),
+            Err(refusal) => complain(&refusal.line()),
+        },
+        (["write"], ..) => match parse::parse(&input()) {
+            Ok(file) => say(&file),
+            Err(wrong) => complain(&wrong.message()),
+        },
+        (["make", _, kind], Some(seed), _) => make_one(seed, kind),
+        (["compare"] | ["compare", _] | ["compare", _, _], Some(runs), Some(damaged)) => {
+            compare_all(runs, damaged)
+        }
+        (["faults"] | ["faults", _], Some(runs), _) => {
+            let (text, all_caught) = faults::faults(runs);
+            print!("{text}");
+            ExitCode::from(u8::from(!all_caught))
+        }
+        _ => complain(HELP),
+    }
+}
+
+/// Standard input, but no more than a byte over the longest that is ever good.
+fn input() -> Vec<u8> {
+    let mut bytes = Vec::new();
+    if let Err(error) = std::io::stdin().take(LONGEST + 1).read_to_end(&mut bytes) {
+        eprintln!("standard input: {error}");
+        std::process::exit(2);
+    }
+    bytes
+}
+
+fn say(bytes: &[u8]) -> ExitCode {
+    match std::io::stdout().write_all(bytes) {
+        Ok(()) => ExitCode::SUCCESS,
+        Err(_) => ExitCode::from(2),
+    }
+}
+
+fn complain(text: &str) -> ExitCode {
+    eprint!("{text}");
+    ExitCode::FAILURE
+}
+
+fn make_one(seed: u64, kind: &str) -> ExitCode {
+    let mut random = Random::new(seed);
+    match kind {
+        "run" => say(&make::run(&mut random)),
+        "tiny" => say(&make::tiny(&mut random)),
+        "largest" => say(&make::largest(&mut random)),
+        "widest" => say(&make::widest()),
+        "damaged" => say(&damage::random(&mut random)),
+        "text" => match text::print(&make::run(&mut random)) {
+            Ok(text) => say(decorate::decorate(&text, &mut random).as_bytes()),
+            Err(refusal) => complain(&refusal.line()),
+        },
+        _ => complain(HELP),
+    }
+}
+
+fn compare_all(runs: u64, damaged: u64) -> ExitCode {
+    let mut comparison = Comparison::new();
+    if let Err(difference) = comparison.all(runs, damaged) {
+        return show(&difference);
+    }
+    let (line, whole) = comparison.line();
+    println!("{line}");
+    if !whole {
+        return complain("not all compared: report, read_run or write_run is not built in target/bin\n");
+    }
+    ExitCode::SUCCESS
+}
+
+fn show(difference: &Difference) -> ExitCode {
+    let path = other::top().join("target/second/difference");
+    let saved = std::fs::write(&path, &difference.file);
+    println!("differs: {}", difference.what);
+    println!("file, {} bytes, saved {saved:?}: {}", difference.file.len(), path.display());
+    println!("second:\n{}", String::from_utf8_lossy(&difference.own));
+    println!("other:\n{}", String::from_utf8_lossy(&difference.other));
+    ExitCode::FAILURE
+}
