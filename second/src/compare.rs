@@ -12,8 +12,13 @@ use crate::runfile::read;
 use crate::texts::Texts;
 use crate::{check, search};
 
-/// About this many runs, and as many damaged files, go through the text programs.
-const TEXTS: u64 = 500;
+/// About this many runs, and as many damaged files, go through the text programs, and through the
+/// report program where the library is there for the others.
+const SAMPLE: u64 = 500;
+
+fn in_sample(seed: u64, of: u64) -> bool {
+    Random::new(seed ^ 0x73_616d_706c_65).once_in((of / SAMPLE).max(1) as usize)
+}
 
 /// The first difference: what was compared, on which file, and both outputs.
 pub struct Difference {
@@ -30,14 +35,16 @@ impl Difference {
 }
 
 pub struct Comparison {
-    other: Option<Other>,
+    /// The ways to the bench's report, and how many files went each.
+    others: Vec<(Other, u64)>,
     texts: Texts,
     pub counts: Counts,
 }
 
 impl Comparison {
     pub fn new() -> Comparison {
-        Comparison { other: Other::find(), texts: Texts::find(), counts: Counts::default() }
+        let others = Other::find().into_iter().map(|other| (other, 0)).collect();
+        Comparison { others, texts: Texts::find(), counts: Counts::default() }
     }
 
     /// The stored runs, then `runs` random runs and `damaged` damaged files.
@@ -51,20 +58,14 @@ impl Comparison {
                 _ => make::run(&mut random),
             };
             self.counts.runs += 1;
-            self.file(&file)?;
-            if seed % (runs / TEXTS).max(1) == 0 {
-                self.texts.file(&file, &mut random)?;
-            }
+            self.file(&file, &mut random, seed % 1_000 >= 998 || in_sample(seed, runs))?;
         }
         let mut sweep = Sweep::new(runs);
         for seed in 0..damaged {
             let mut random = Random::new(!seed);
             let file = if seed % 2 == 0 { sweep.next() } else { damage::random(&mut random) };
             self.counts.damaged += 1;
-            self.file(&file)?;
-            if seed % (damaged / TEXTS).max(1) == 0 {
-                self.texts.file(&file, &mut random)?;
-            }
+            self.file(&file, &mut random, in_sample(!seed, damaged))?;
         }
         Ok(())
     }
@@ -78,7 +79,7 @@ impl Comparison {
                 std::fs::read(&path).map_err(told)
             };
             let (file, report, text) = (part("run")?, part("report")?, part("txt")?);
-            let own = self.file(&file)?;
+            let own = self.file(&file, &mut Random::new(number), true)?;
             if own != report {
                 return Err(Difference::new("stored report", &file, &own, &report));
             }
@@ -86,21 +87,25 @@ impl Comparison {
             if told != file {
                 return Err(Difference::new("stored text", &text, &told, &file));
             }
-            self.texts.file(&file, &mut Random::new(number))?;
             self.counts.stored += 1;
         }
         Ok(())
     }
 
-    /// One file: its report by both programs, and demand 3 of the run. Gives this program's report.
-    fn file(&mut self, file: &[u8]) -> Result<Vec<u8>, Difference> {
+    /// One file: its report by both programs, and demand 3 of the run; of a file of the sample the
+    /// text too. Gives this program's report.
+    fn file(&mut self, file: &[u8], random: &mut Random, sample: bool) -> Result<Vec<u8>, Difference> {
         let own = self.own(file)?;
-        if let Some(other) = &mut self.other {
+        let ways = if sample { self.others.len() } else { 1 };
+        for (other, count) in self.others.iter_mut().take(ways) {
             match other.report(file) {
-                Ok(theirs) if theirs == own => self.counts.reports += 1,
+                Ok(theirs) if theirs == own => *count += 1,
                 Ok(theirs) => return Err(Difference::new("report", file, &own, &theirs)),
                 Err(told) => return Err(Difference::new(&told, file, &own, &[])),
             }
+        }
+        if sample {
+            self.texts.file(file, random)?;
         }
         Ok(own)
     }
@@ -134,10 +139,12 @@ impl Comparison {
         Ok(buffer)
     }
 
-    /// The line of counts, and whether everything that should be compared could be.
+    /// The line of counts, and whether the bench's report and both text programs were there.
     pub fn line(&self) -> (String, bool) {
-        let way = self.other.as_ref().map_or("none", Other::name);
-        let text = format!("{} way {way} {}", self.counts.line(), self.texts.line());
-        (text, self.other.is_some() && self.texts.built())
+        let mut text = self.counts.line();
+        for (other, count) in &self.others {
+            text += &format!(" report by {} {count}", other.name());
+        }
+        (text + " " + &self.texts.line(), !self.others.is_empty() && self.texts.built())
     }
 }

@@ -10,7 +10,6 @@ pub struct Counts {
     pub damaged: u64,
     /// Refused files by number.
     pub refused: [u64; 15],
-    pub reports: u64,
     pub searched: u64,
     listed: u64,
     contests: u64,
@@ -29,7 +28,7 @@ impl Counts {
     pub fn line(&self) -> String {
         let refused: Vec<String> = (1..9).map(|n| format!("{n}:{}", self.refused[n])).collect();
         format!(
-            "stored {} runs {} damaged {} refused {} listed {} contests {} open {} searched {} reports {}",
+            "stored {} runs {} damaged {} refused {} listed {} contests {} open {} searched {}",
             self.stored,
             self.runs,
             self.damaged,
@@ -38,7 +37,6 @@ impl Counts {
             self.contests,
             self.open,
             self.searched,
-            self.reports,
         )
     }
 }

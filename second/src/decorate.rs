@@ -1,4 +1,5 @@
-//! A printed text written as a person might: comments, blank lines, tabs, leading zeros.
+//! A printed text written as a person might: comments, blank lines, tabs, leading zeros; and with
+//! a slip of the pen.
 
 use crate::random::Random;
 
@@ -31,4 +32,26 @@ pub fn decorate(text: &str, random: &mut Random) -> String {
         out.pop();
     }
     out
+}
+
+const SLIPS: [&str; 22] = [
+    "", "0", "1", "33", "4294967295", "4294967296", "99999999999999999999", "-1", "+1", "4x", "start",
+    "stations", "turns", "read", "set", "swap", "Set", "sett", "se", "\n", "#", "1 2",
+];
+
+/// A text with one word changed, left out or put in, or cut short. It ends without a newline:
+/// docs/RUN-TEXT.md leaves open which line is the last where a text ends too early after one.
+pub fn spoil(text: &str, random: &mut Random) -> String {
+    let mut words: Vec<&str> = text.split_inclusive([' ', '\n']).collect();
+    let at = random.below(words.len());
+    let bare = words[at].trim_end();
+    let end = &words[at][bare.len()..];
+    let slip = random.pick(&SLIPS).to_owned() + random.pick(&[end, end, " ", "\n", "\0", "\u{c}"]);
+    match random.below(5) {
+        0 => words.truncate(at),
+        1 => drop(words.remove(at)),
+        2 => words.insert(at, &slip),
+        _ => words[at] = &slip,
+    }
+    words.concat().trim_end_matches('\n').into()
 }

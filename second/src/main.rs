@@ -32,7 +32,7 @@ use std::process::ExitCode;
 const HELP: &str = "usage: second report < FILE      the report of a run file
        second read < FILE        a run file as text
        second write < TEXT       a text as a run file
-       second make SEED KIND     a random file: run, tiny, largest, widest, damaged or text
+       second make SEED KIND     a random file: run, tiny, largest, widest, damaged, text or slip
        second compare [RUNS [DAMAGED]]   against the bench's programs
        second faults [RUNS]      the planted faults
 ";
@@ -50,10 +50,7 @@ fn main() -> ExitCode {
             Ok(text) => say(text.as_bytes()),
             Err(refusal) => complain(&refusal.line()),
         },
-        (["write"], ..) => match parse::parse(&input()) {
-            Ok(file) => say(&file),
-            Err(wrong) => complain(&wrong.message()),
-        },
+        (["write"], ..) => write_one(&input()),
         (["make", _, kind], Some(seed), _) => make_one(seed, kind),
         (["compare"] | ["compare", _] | ["compare", _, _], Some(runs), Some(damaged)) => {
             compare_all(runs, damaged)
@@ -89,6 +86,16 @@ fn complain(text: &str) -> ExitCode {
     ExitCode::FAILURE
 }
 
+fn write_one(text: &[u8]) -> ExitCode {
+    if text.len() as u64 > LONGEST {
+        return complain("the text has more than 262143 bytes\n");
+    }
+    match parse::parse(text) {
+        Ok(file) => say(&file),
+        Err(wrong) => complain(&wrong.message()),
+    }
+}
+
 fn make_one(seed: u64, kind: &str) -> ExitCode {
     let mut random = Random::new(seed);
     match kind {
@@ -97,10 +104,12 @@ fn make_one(seed: u64, kind: &str) -> ExitCode {
         "largest" => say(&make::largest(&mut random)),
         "widest" => say(&make::widest()),
         "damaged" => say(&damage::random(&mut random)),
-        "text" => match text::print(&make::run(&mut random)) {
-            Ok(text) => say(decorate::decorate(&text, &mut random).as_bytes()),
-            Err(refusal) => complain(&refusal.line()),
-        },
+        "text" | "slip" => {
+            let text = text::print(&make::tiny(&mut random)).unwrap_or_default();
+            let text = decorate::decorate(&text, &mut random);
+            let slip = kind == "slip";
+            say(if slip { decorate::spoil(&text, &mut random) } else { text }.as_bytes())
+        }
         _ => complain(HELP),
     }
 }
@@ -113,7 +122,8 @@ fn compare_all(runs: u64, damaged: u64) -> ExitCode {
     let (line, whole) = comparison.line();
     println!("{line}");
     if !whole {
-        return complain("not all compared: report, read_run or write_run is not built in target/bin\n");
+        complain("not all compared: report, read_run or write_run is not built in target/bin\n");
+        return ExitCode::from(2);
     }
     ExitCode::SUCCESS
 }

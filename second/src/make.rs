@@ -32,10 +32,10 @@ pub fn tiny(random: &mut Random) -> Vec<u8> {
 }
 
 fn run_of(random: &mut Random, size: &Size) -> Vec<u8> {
-    let n = random.from_to(1, size.stations);
+    let n = if random.once_in(8) { 1 } else { random.from_to(2, size.stations) };
     let q = random.from_to(0, size.calls);
-    let most = size.turns.min(14 * q + 10);
-    let t = random.from_to(0, most);
+    let most = size.turns.min(12 * q + 10);
+    let t = if random.once_in(4) { random.from_to(0, most) } else { most - random.below(most / 2) };
     let values = Values::new(random);
     let calls = some_calls(random, n, q, &values);
     let turns = some_turns(random, n, t);
@@ -52,7 +52,7 @@ impl Values {
     fn new(random: &mut Random) -> Values {
         let anywhere = random.next() as u32;
         let base = random.pick(&[0, 0, 0, 1, 9, u32::MAX - 3, u32::MAX, anywhere]);
-        Values { base, span: random.pick(&[1, 2, 2, 2, 3, 3, 4, 6]) }
+        Values { base, span: random.pick(&[1, 1, 2, 2, 2, 2, 3, 5]) }
     }
 
     fn one(&self, random: &mut Random) -> u32 {
@@ -92,10 +92,10 @@ fn call(random: &mut Random, station: u8, kind: Kind, values: &Values) -> Call {
 fn some_turns(random: &mut Random, n: usize, t: usize) -> Vec<u8> {
     let mut turns = Vec::with_capacity(t + 40);
     let slow = random.from_to(1, n);
-    let habit = random.below(5);
+    let (habit, longest) = (random.below(5), random.pick(&[3, 6, 12, 24]));
     while turns.len() < t {
         let way = if random.once_in(3) { random.below(4) } else { habit };
-        let length = random.from_to(1, 12);
+        let length = random.from_to(1, longest);
         let (one, two) = (random.from_to(1, n), random.from_to(1, n));
         for at in 0..length {
             let id = match way {
@@ -118,13 +118,19 @@ fn some_turns(random: &mut Random, n: usize, t: usize) -> Vec<u8> {
 }
 
 /// The largest file: 32 stations with 32 calls each, and 40,960 turns in rows of all the stations.
+/// Call by call the sets go to and fro between two values, so that nearly all of them contend.
 pub fn largest(random: &mut Random) -> Vec<u8> {
     let n = MAX_STATIONS;
-    let values = Values { base: random.next() as u32, span: 2 };
+    let x = random.next() as u32 | 1;
     let calls: Vec<Call> = (0..MAX_CALLS)
         .map(|at| {
-            let kind = random.pick(&[Kind::Set, Kind::Set, Kind::Set, Kind::Swap, Kind::Read]);
-            call(random, (at % usize::from(n)) as u8 + 1, kind, &values)
+            let station = (at % usize::from(n)) as u8 + 1;
+            let (a, b) = if at / usize::from(n) % 2 == 0 { (x, x - 1) } else { (x - 1, x) };
+            match random.below(20) {
+                0 => Call { station, kind: Kind::Read, a: 0, b: 0 },
+                1..=4 => Call { station, kind: Kind::Swap, a, b },
+                _ => Call { station, kind: Kind::Set, a, b },
+            }
         })
         .collect();
     let mut row: Vec<u8> = (1..=n).collect();
@@ -135,7 +141,7 @@ pub fn largest(random: &mut Random) -> Vec<u8> {
         }
         turns.extend_from_slice(&row);
     }
-    write(values.base, n, &calls, &turns)
+    write(x, n, &calls, &turns)
 }
 
 /// The file of the widest report: 1,024 swaps of ten-digit values after 10,000 idle turns.

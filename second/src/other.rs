@@ -6,7 +6,8 @@ use std::process::{Command, Stdio};
 
 /// The root of the repository.
 pub fn top() -> &'static Path {
-    Path::new(concat!(env!("CARGO_MANIFEST_DIR"), "/.."))
+    let here = Path::new(env!("CARGO_MANIFEST_DIR"));
+    here.parent().unwrap_or(here)
 }
 
 /// What a program wrote.
@@ -54,14 +55,14 @@ pub enum Other {
 }
 
 impl Other {
-    /// The library where it is linked, else the program where it is built.
-    /// With SECOND_WAY=process in the environment it is the program.
-    pub fn find() -> Option<Other> {
+    /// The ways that are there: the library where it is linked, the program where it is built.
+    pub fn find() -> Vec<Other> {
+        let process = Program::find("report").map(Other::Process);
         #[cfg(feature = "library")]
-        if std::env::var_os("SECOND_WAY").is_none_or(|way| way != "process") {
-            return Some(Other::Library(Box::default()));
-        }
-        Program::find("report").map(Other::Process)
+        let library = Some(Other::Library(Box::default()));
+        #[cfg(not(feature = "library"))]
+        let library = None;
+        library.into_iter().chain(process).collect()
     }
 
     pub fn name(&self) -> &'static str {

@@ -1,7 +1,7 @@
 //! The text form compared: `read_run` and `write_run` against this program's print and parse.
 
 use crate::compare::Difference;
-use crate::decorate::decorate;
+use crate::decorate::{decorate, spoil};
 use crate::other::Program;
 use crate::parse::parse;
 use crate::random::Random;
@@ -12,29 +12,32 @@ pub struct Texts {
     write_run: Option<Program>,
     read: u64,
     written: u64,
+    slips: u64,
 }
 
 impl Texts {
     pub fn find() -> Texts {
         let (read_run, write_run) = (Program::find("read_run"), Program::find("write_run"));
-        Texts { read_run, write_run, read: 0, written: 0 }
+        Texts { read_run, write_run, read: 0, written: 0, slips: 0 }
     }
 
     pub fn built(&self) -> bool {
         self.read_run.is_some() && self.write_run.is_some()
     }
 
-    /// The file as text by both; and back by both, from that text and from one more like a person's.
+    /// The file as text by both; and back by both, from that text and from one more like a person's;
+    /// and what both say of a text with a slip.
     pub fn file(&mut self, file: &[u8], random: &mut Random) -> Result<(), Difference> {
         let text = self.read(file)?;
         if text.is_empty() {
             return Ok(());
         }
         let loose = decorate(&text, random);
+        let slip = spoil(&loose, random);
         for text in [text, loose] {
             self.write(file, text.as_bytes())?;
         }
-        Ok(())
+        self.slip(slip.as_bytes())
     }
 
     /// This program's text of the file; empty if it is refused.
@@ -74,8 +77,26 @@ impl Texts {
         Ok(())
     }
 
+    /// A text that may be good or not: the same file, or the same line of complaint.
+    fn slip(&mut self, text: &[u8]) -> Result<(), Difference> {
+        let Some(program) = &self.write_run else { return Ok(()) };
+        let own = match parse(text) {
+            Ok(file) => (file, Vec::new()),
+            Err(wrong) => (Vec::new(), wrong.message().into_bytes()),
+        };
+        let theirs = run(program, text)?;
+        self.slips += 1;
+        if theirs.0 != own.0 {
+            return Err(Difference::new("write_run with a slip", text, &own.0, &theirs.0));
+        }
+        if theirs.1 != own.1 {
+            return Err(Difference::new("write_run's complaint", text, &own.1, &theirs.1));
+        }
+        Ok(())
+    }
+
     pub fn line(&self) -> String {
-        format!("read_run {} write_run {}", self.read, self.written)
+        format!("read_run {} write_run {} slips {}", self.read, self.written, self.slips)
     }
 }
 
