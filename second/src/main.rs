@@ -28,6 +28,7 @@ use compare::{Comparison, Difference};
 use random::Random;
 use std::io::{Read, Write};
 use std::process::ExitCode;
+use text::LONGEST_TEXT;
 
 const HELP: &str = "usage: second report < FILE      the report of a run file
        second read < FILE        a run file as text
@@ -36,9 +37,6 @@ const HELP: &str = "usage: second report < FILE      the report of a run file
        second compare [RUNS [DAMAGED]]   against the bench's programs
        second faults [RUNS]      the planted faults
 ";
-
-/// A good text has at most this many bytes, and every good run file fewer.
-const LONGEST: u64 = 262_143;
 
 fn main() -> ExitCode {
     let words: Vec<String> = std::env::args().skip(1).collect();
@@ -64,10 +62,10 @@ fn main() -> ExitCode {
     }
 }
 
-/// Standard input, but no more than a byte over the longest that is ever good.
+/// Standard input, but no more than a byte over the longest text; run files are shorter.
 fn input() -> Vec<u8> {
     let mut bytes = Vec::new();
-    if let Err(error) = std::io::stdin().take(LONGEST + 1).read_to_end(&mut bytes) {
+    if let Err(error) = std::io::stdin().take(LONGEST_TEXT as u64 + 1).read_to_end(&mut bytes) {
         eprintln!("standard input: {error}");
         std::process::exit(2);
     }
@@ -87,7 +85,7 @@ fn complain(text: &str) -> ExitCode {
 }
 
 fn write_one(text: &[u8]) -> ExitCode {
-    if text.len() as u64 > LONGEST {
+    if text.len() > LONGEST_TEXT {
         return complain("the text has more than 262143 bytes\n");
     }
     match parse::parse(text) {
@@ -128,12 +126,21 @@ fn compare_all(runs: u64, damaged: u64) -> ExitCode {
     ExitCode::SUCCESS
 }
 
+/// Saves the file and both outputs of a difference under target/, and shows it.
 fn show(difference: &Difference) -> ExitCode {
-    let path = other::top().join("target/second/difference");
-    let saved = std::fs::write(&path, &difference.file);
     println!("differs: {}", difference.what);
-    println!("file, {} bytes, saved {saved:?}: {}", difference.file.len(), path.display());
-    println!("second:\n{}", String::from_utf8_lossy(&difference.own));
-    println!("other:\n{}", String::from_utf8_lossy(&difference.other));
+    let parts = [
+        ("file", &difference.file),
+        ("second", &difference.own),
+        ("other", &difference.other),
+    ];
+    for (name, bytes) in parts {
+        let path = other::top().join(format!("target/second/difference.{name}"));
+        let saved = std::fs::write(&path, bytes).map_or("not saved", |()| "saved");
+        println!("{name}, {} bytes, {saved}: {}", bytes.len(), path.display());
+        for line in bytes.split_inclusive(|&byte| byte == b'\n').take(60) {
+            println!("    {}", line.escape_ascii());
+        }
+    }
     ExitCode::FAILURE
 }

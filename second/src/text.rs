@@ -1,8 +1,10 @@
 //! Run files printed as text (docs/RUN-TEXT.md).
 
-use crate::runfile::{Kind, Refusal, RunFile, read};
+use crate::runfile::{read, Kind, Refusal, RunFile};
 use std::fmt::Write;
 
+/// The longest text that is taken.
+pub const LONGEST_TEXT: usize = 262_143;
 const ROW: usize = 20;
 
 /// The text of a run file, or the refusal of the file.

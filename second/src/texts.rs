@@ -5,7 +5,7 @@ use crate::decorate::{decorate, spoil};
 use crate::other::Program;
 use crate::parse::parse;
 use crate::random::Random;
-use crate::text::print;
+use crate::text::{print, LONGEST_TEXT};
 
 pub struct Texts {
     read_run: Option<Program>,
@@ -32,7 +32,10 @@ impl Texts {
         if text.is_empty() {
             return Ok(());
         }
-        let loose = decorate(&text, random);
+        let mut loose = decorate(&text, random);
+        if loose.len() > LONGEST_TEXT {
+            loose.clone_from(&text);
+        }
         let slip = spoil(&loose, random);
         for text in [text, loose] {
             self.write(file, text.as_bytes())?;
