@@ -18,11 +18,8 @@ impl Pair {
     /// Both halves become `new`'s, if its first half is at least this one's.
     #[inline]
     pub fn max_write<const F: u8>(&mut self, new: Pair) {
-        let wins = if F == fault::STRICT_MAX_WRITE {
-            new.first > self.first
-        } else {
-            new.first >= self.first
-        };
+        let wins =
+            if F == fault::STRICT_MAX_WRITE { new.first > self.first } else { new.first >= self.first };
         if wins {
             *self = new;
         }

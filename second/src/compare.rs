@@ -17,7 +17,7 @@ use crate::{check, search};
 const SAMPLE: u64 = 500;
 
 fn in_sample(seed: u64, of: u64) -> bool {
-    Random::new(seed ^ 0x73_616d_706c_65).once_in((of / SAMPLE).max(1) as usize)
+    Random::new(seed ^ 0x7361_6d70_6c65).once_in((of / SAMPLE).max(1) as usize)
 }
 
 /// The first difference: what was compared, on which file, and both outputs.

@@ -57,7 +57,7 @@ fn hurt(random: &mut Random, file: &mut Vec<u8>) {
         1 => drop(file.drain(..at.min(length))),
         2 if length > 0 => file[at] = random.next() as u8,
         3 => {
-            for _ in 0..random.from_to(1, 20) {
+            for _ in 0..random.between(1, 20) {
                 file.push(random.pick(&[0, 1, 1, 2, 255]));
             }
         }

@@ -35,8 +35,28 @@ pub fn decorate(text: &str, random: &mut Random) -> String {
 }
 
 const SLIPS: [&str; 22] = [
-    "", "0", "1", "33", "4294967295", "4294967296", "99999999999999999999", "-1", "+1", "4x", "start",
-    "stations", "turns", "read", "set", "swap", "Set", "sett", "se", "\n", "#", "1 2",
+    "",
+    "0",
+    "1",
+    "33",
+    "4294967295",
+    "4294967296",
+    "99999999999999999999",
+    "-1",
+    "+1",
+    "4x",
+    "start",
+    "stations",
+    "turns",
+    "read",
+    "set",
+    "swap",
+    "Set",
+    "sett",
+    "se",
+    "\n",
+    "#",
+    "1 2",
 ];
 
 /// A text with one word changed, left out or put in, or cut short. It ends without a newline:

@@ -152,7 +152,7 @@ impl Machine {
             Place::P16 => {
                 let Pair { first: ca, second: val } = self.a[me.pid];
                 (me.ca, me.val) = (ca, val);
-                let even = F == fault::NO_PARITY || me.seq % 2 == 0;
+                let even = F == fault::NO_PARITY || me.seq.is_multiple_of(2);
                 let same = F == fault::NO_COUNT_TEST || me.cp == ca;
                 me.place = if even && same { Place::P18 } else { Place::P20 };
                 Event::Going

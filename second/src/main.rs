@@ -55,7 +55,7 @@ fn main() -> ExitCode {
         }
         (["faults"] | ["faults", _], Some(runs), _) => {
             let (text, all_caught) = faults::faults(runs);
-            print!("{text}");
+            say(text.as_bytes());
             ExitCode::from(u8::from(!all_caught))
         }
         _ => complain(HELP),
@@ -118,7 +118,7 @@ fn compare_all(runs: u64, damaged: u64) -> ExitCode {
         return show(&difference);
     }
     let (line, whole) = comparison.line();
-    println!("{line}");
+    say((line + "\n").as_bytes());
     if !whole {
         complain("not all compared: report, read_run or write_run is not built in target/bin\n");
         return ExitCode::from(2);
@@ -128,19 +128,16 @@ fn compare_all(runs: u64, damaged: u64) -> ExitCode {
 
 /// Saves the file and both outputs of a difference under target/, and shows it.
 fn show(difference: &Difference) -> ExitCode {
-    println!("differs: {}", difference.what);
-    let parts = [
-        ("file", &difference.file),
-        ("second", &difference.own),
-        ("other", &difference.other),
-    ];
+    let mut text = format!("differs: {}\n", difference.what);
+    let parts = [("file", &difference.file), ("second", &difference.own), ("other", &difference.other)];
     for (name, bytes) in parts {
         let path = other::top().join(format!("target/second/difference.{name}"));
         let saved = std::fs::write(&path, bytes).map_or("not saved", |()| "saved");
-        println!("{name}, {} bytes, {saved}: {}", bytes.len(), path.display());
+        text += &format!("{name}, {} bytes, {saved}: {}\n", bytes.len(), path.display());
         for line in bytes.split_inclusive(|&byte| byte == b'\n').take(60) {
-            println!("    {}", line.escape_ascii());
+            text += &format!("    {}\n", line.escape_ascii());
         }
     }
+    say(text.as_bytes());
     ExitCode::FAILURE
 }

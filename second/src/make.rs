@@ -32,10 +32,10 @@ pub fn tiny(random: &mut Random) -> Vec<u8> {
 }
 
 fn run_of(random: &mut Random, size: &Size) -> Vec<u8> {
-    let n = if random.once_in(8) { 1 } else { random.from_to(2, size.stations) };
-    let q = random.from_to(0, size.calls);
+    let n = if random.once_in(8) { 1 } else { random.between(2, size.stations) };
+    let q = random.between(0, size.calls);
     let most = size.turns.min(12 * q + 10);
-    let t = if random.once_in(4) { random.from_to(0, most) } else { most - random.below(most / 2) };
+    let t = if random.once_in(4) { random.between(0, most) } else { most - random.below(most / 2) };
     let values = Values::new(random);
     let calls = some_calls(random, n, q, &values);
     let turns = some_turns(random, n, t);
@@ -61,11 +61,11 @@ impl Values {
 }
 
 fn some_calls(random: &mut Random, n: usize, q: usize, values: &Values) -> Vec<Call> {
-    let busiest = random.from_to(1, n);
+    let busiest = random.between(1, n);
     let (heavy, reads, swaps) = (random.once_in(4), random.below(4), random.below(4));
     (0..q)
         .map(|_| {
-            let id = random.from_to(1, n);
+            let id = random.between(1, n);
             let station = if heavy && !random.once_in(4) { busiest } else { id } as u8;
             let kind = match random.below(10) {
                 number if number < reads => Kind::Read,
@@ -91,20 +91,20 @@ fn call(random: &mut Random, station: u8, kind: Kind, values: &Values) -> Call {
 /// Turns in pieces: any station, bursts of one, two by turns, all in a row.
 fn some_turns(random: &mut Random, n: usize, t: usize) -> Vec<u8> {
     let mut turns = Vec::with_capacity(t + 40);
-    let slow = random.from_to(1, n);
+    let slow = random.between(1, n);
     let (habit, longest) = (random.below(5), random.pick(&[3, 6, 12, 24]));
     while turns.len() < t {
         let way = if random.once_in(3) { random.below(4) } else { habit };
-        let length = random.from_to(1, longest);
-        let (one, two) = (random.from_to(1, n), random.from_to(1, n));
+        let length = random.between(1, longest);
+        let (one, two) = (random.between(1, n), random.between(1, n));
         for at in 0..length {
             let id = match way {
-                0 => random.from_to(1, n),
+                0 => random.between(1, n),
                 1 => one,
                 2 if at % 2 == 0 => one,
                 2 => two,
                 3 => 1 + (one + at) % n,
-                _ => random.from_to(1, n.min(4)),
+                _ => random.between(1, n.min(4)),
             };
             if id != slow || random.once_in(2) {
                 turns.push(id as u8);

@@ -62,12 +62,7 @@ pub fn output(file: &[u8]) -> Vec<u8> {
 }
 
 /// Prints the book of a run.
-pub fn print(
-    file: &RunFile,
-    book: &Book,
-    machine: &Machine,
-    buffer: &mut [u8],
-) -> Result<usize, Refusal> {
+pub fn print(file: &RunFile, book: &Book, machine: &Machine, buffer: &mut [u8]) -> Result<usize, Refusal> {
     let room = buffer.len();
     let mut out = Out { buffer, length: 0 };
     for (at, &call) in book.list().iter().enumerate() {

@@ -83,10 +83,7 @@ fn call_of(record: &[u8]) -> Call {
 fn good_record(record: &[u8], n: u8) -> bool {
     let station = u16::from_le_bytes([record[0], record[1]]);
     let values = record[4..].iter().any(|&byte| byte != 0);
-    (1..=u16::from(n)).contains(&station)
-        && record[2] <= 2
-        && record[3] == 0
-        && !(record[2] == 0 && values)
+    (1..=u16::from(n)).contains(&station) && record[2] <= 2 && record[3] == 0 && !(record[2] == 0 && values)
 }
 
 /// The first refusal that holds, or the parts of the file.
