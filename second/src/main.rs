@@ -33,7 +33,8 @@ use text::LONGEST_TEXT;
 const HELP: &str = "usage: second report < FILE      the report of a run file
        second read < FILE        a run file as text
        second write < TEXT       a text as a run file
-       second make SEED KIND     a random file: run, tiny, largest, widest, damaged, text or slip
+       second make SEED KIND     a random file: run, tiny, largest, widest, damaged,
+                                 sweep (file SEED of the cuts and changes), text or slip
        second compare [RUNS [DAMAGED]]   against the bench's programs
        second faults [RUNS]      the planted faults
 ";
@@ -102,6 +103,11 @@ fn make_one(seed: u64, kind: &str) -> ExitCode {
         "largest" => say(&make::largest(&mut random)),
         "widest" => say(&make::widest()),
         "damaged" => say(&damage::random(&mut random)),
+        "sweep" => {
+            let mut sweep = damage::Sweep::new(0);
+            (0..seed).for_each(|_| drop(sweep.next()));
+            say(&sweep.next())
+        }
         "text" | "slip" => {
             let text = text::print(&make::tiny(&mut random)).unwrap_or_default();
             let text = decorate::decorate(&text, &mut random);
