@@ -1,0 +1,149 @@
+//! The second program: document 01's report written a second time, and its comparison with the bench.
+
+mod card;
+mod check;
+mod compare;
+mod counts;
+mod damage;
+mod decorate;
+mod fault;
+mod faults;
+#[cfg(feature = "library")]
+mod library;
+mod machine;
+mod make;
+mod other;
+mod parse;
+mod random;
+mod report;
+mod run;
+mod runfile;
+mod search;
+#[cfg(test)]
+mod tests;
+mod text;
+mod texts;
+
+use compare::{Comparison, Difference};
+use random::Random;
+use std::io::{Read, Write};
+use std::process::ExitCode;
+use text::LONGEST_TEXT;
+
+const HELP: &str = "usage: second report < FILE      the report of a run file
+       second read < FILE        a run file as text
+       second write < TEXT       a text as a run file
+       second make SEED KIND     a random file: run, tiny, largest, widest, damaged,
+                                 sweep (file SEED of the cuts and changes), text or slip
+       second compare [RUNS [DAMAGED]]   against the bench's programs
+       second faults [RUNS]      the planted faults
+";
+
+fn main() -> ExitCode {
+    let words: Vec<String> = std::env::args().skip(1).collect();
+    let words: Vec<&str> = words.iter().map(String::as_str).collect();
+    let number = |at: usize, or: u64| words.get(at).map_or(Some(or), |word| word.parse().ok());
+    match (words.as_slice(), number(1, 20_000), number(2, 20_000)) {
+        (["report"], ..) => say(&report::output(&input())),
+        (["read"], ..) => match text::print(&input()) {
+            Ok(text) => say(text.as_bytes()),
+            Err(refusal) => complain(&refusal.line()),
+        },
+        (["write"], ..) => write_one(&input()),
+        (["make", _, kind], Some(seed), _) => make_one(seed, kind),
+        (["compare"] | ["compare", _] | ["compare", _, _], Some(runs), Some(damaged)) => {
+            compare_all(runs, damaged)
+        }
+        (["faults"] | ["faults", _], Some(runs), _) => {
+            let (text, all_caught) = faults::faults(runs);
+            say(text.as_bytes());
+            ExitCode::from(u8::from(!all_caught))
+        }
+        _ => complain(HELP),
+    }
+}
+
+/// Standard input, but no more than a byte over the longest text; run files are shorter.
+fn input() -> Vec<u8> {
+    let mut bytes = Vec::new();
+    if let Err(error) = std::io::stdin().take(LONGEST_TEXT as u64 + 1).read_to_end(&mut bytes) {
+        eprintln!("standard input: {error}");
+        std::process::exit(2);
+    }
+    bytes
+}
+
+fn say(bytes: &[u8]) -> ExitCode {
+    match std::io::stdout().write_all(bytes) {
+        Ok(()) => ExitCode::SUCCESS,
+        Err(_) => ExitCode::from(2),
+    }
+}
+
+fn complain(text: &str) -> ExitCode {
+    eprint!("{text}");
+    ExitCode::FAILURE
+}
+
+fn write_one(text: &[u8]) -> ExitCode {
+    if text.len() > LONGEST_TEXT {
+        return complain("the text has more than 262143 bytes\n");
+    }
+    match parse::parse(text) {
+        Ok(file) => say(&file),
+        Err(wrong) => complain(&wrong.message()),
+    }
+}
+
+fn make_one(seed: u64, kind: &str) -> ExitCode {
+    let mut random = Random::new(seed);
+    match kind {
+        "run" => say(&make::run(&mut random)),
+        "tiny" => say(&make::tiny(&mut random)),
+        "largest" => say(&make::largest(&mut random)),
+        "widest" => say(&make::widest()),
+        "damaged" => say(&damage::random(&mut random)),
+        "sweep" => {
+            let mut sweep = damage::Sweep::new(0);
+            (0..seed).for_each(|_| drop(sweep.next()));
+            say(&sweep.next())
+        }
+        "text" | "slip" => {
+            let text = text::print(&make::tiny(&mut random)).unwrap_or_default();
+            let text = decorate::decorate(&text, &mut random);
+            let slip = kind == "slip";
+            say(if slip { decorate::spoil(&text, &mut random) } else { text }.as_bytes())
+        }
+        _ => complain(HELP),
+    }
+}
+
+fn compare_all(runs: u64, damaged: u64) -> ExitCode {
+    let mut comparison = Comparison::new();
+    if let Err(difference) = comparison.all(runs, damaged) {
+        return show(&difference);
+    }
+    let (line, whole) = comparison.line();
+    say((line + "\n").as_bytes());
+    if !whole {
+        complain("not all compared: report, read_run or write_run is not built in target/bin\n");
+        return ExitCode::from(2);
+    }
+    ExitCode::SUCCESS
+}
+
+/// Saves the file and both outputs of a difference under target/, and shows it.
+fn show(difference: &Difference) -> ExitCode {
+    let mut text = format!("differs: {}\n", difference.what);
+    let parts = [("file", &difference.file), ("second", &difference.own), ("other", &difference.other)];
+    for (name, bytes) in parts {
+        let path = other::top().join(format!("target/second/difference.{name}"));
+        let saved = std::fs::write(&path, bytes).map_or("not saved", |()| "saved");
+        text += &format!("{name}, {} bytes, {saved}: {}\n", bytes.len(), path.display());
+        for line in bytes.split_inclusive(|&byte| byte == b'\n').take(60) {
+            text += &format!("    {}\n", line.escape_ascii());
+        }
+    }
+    say(text.as_bytes());
+    ExitCode::FAILURE
+}
