@@ -2,11 +2,17 @@
 // They rest on the rooms' own proofs and assume nothing.
 ghost use Rattle.card.specs.Promise.{Card};
 ghost use Rattle.bench.specs.Promise.{RefusesExactly, KeptSound, OwnTurnsCount};
+ghost use Rattle.promises.specs.Runs.{RunsToCheck};
 ghost use Rattle.promises.specs.Unique.{OneResult};
 
 // R9, P's packing over any split, and that P is a register of two halves.
 pub fn registers_are_as_written()
     ensures { λ r. ⌜ Card ⌝ }
+{}
+
+// R1 to R9 of document 01, from the bytes of the file to the text of the report.
+pub fn runs_are_as_written()
+    ensures { λ r. ⌜ RunsToCheck ⌝ }
 {}
 
 // Demand 1 for turns: each refusal exactly when it holds and none before it does, and a refused turn hands back the same bench.

@@ -1,0 +1,23 @@
+-- The runs to check, computed. Assumes nothing.
+use mathlib.Core.Path.{refl}
+use Rattle.octets.specs.Bytes.{bytes, spelled}
+use Rattle.script.specs.Decimal.{decimal, digitsIn}
+use Rattle.card.proofs.Card.{card}
+use Rattle.method.specs.Effect.{losers, points}
+use Rattle.method.specs.Table.{row}
+use Rattle.runfile.specs.First.{firstFrom}
+use Rattle.runfile.specs.Layout.{callOf, fileOf, trailerBytes}
+use Rattle.runfile.specs.Reading.{badCall, firstCall, firstTurn, readOf}
+use Rattle.bench.specs.Sound.{eachEntry, entryKept, sound}
+use Rattle.bench.specs.Turn.{freshOf, turnOf}
+use Rattle.run.specs.Rows.{enterCall}
+use Rattle.run.specs.Book.{allEnter}
+use Rattle.run.specs.Calls.{callAfter}
+use Rattle.run.specs.Run.{firstCalls, noted, runFrom}
+use Rattle.sheet.specs.Sheet.{kindWord, answerWord, lineText, linesText, lastText, sheetText}
+use Rattle.sheet.specs.Report.{reportText}
+use Rattle.promises.specs.Runs.{RunsToCheck}
+
+pub runs-to-check : RunsToCheck
+unfolding bytes spelled decimal digitsIn losers points row firstFrom callOf fileOf trailerBytes badCall firstCall firstTurn readOf eachEntry entryKept sound freshOf turnOf enterCall allEnter callAfter firstCalls noted runFrom kindWord answerWord lineText linesText lastText sheetText reportText
+runs-to-check = record { good = refl; reports = refl; register = card .r9 }
