@@ -1,18 +1,19 @@
 -- The run loop's invariant, and that one more turn keeps it. Assumes nothing.
 use mathlib.Core.Path.{_≡_, refl, _∙_, sym, ap}
 use mathlib.Core.Logic.{⊎-elim}
-use mathlib.Core.Bool.{true, cond}
+use mathlib.Core.Bool.{Bool, true, cond, _&&_}
 use mathlib.Core.List.{List, [], _∷_}
 use Prim.Native.Nat.{ℕ, _+_, _<_, _≤_}
 use native.Mathlib.Omega.{arith}
 use native.Mathlib.Numerals.{add-one}
+use borrow.Author.Tests.{eqb-true}
 use lib.Dec.{eqb}
 use lib.ListN.{length, getD, set, drop}
 use lib.Seq.{drop-cons, drop-length, getD-set-same}
 use types.Run.{OneOf}
 use denote.Enum.Declared.{tagOf}
 use Rattle.method.proofs.Answer.{the-type}
-use Rattle.rules.proofs.Facts.{either-way}
+use Rattle.rules.proofs.Facts.{either-way, and-left, and-right}
 use Rattle.method.specs.declared.Place.{Place}
 use Rattle.method.specs.declared.Place.the-variants.{Rest, At11, At12, At13, At14, At15, At16, At18, At19, At20}
 use Rattle.method.specs.declared.Call.{Call}
@@ -36,10 +37,10 @@ use Rattle.run.specs.declared.Errand.{Errand}
 use Rattle.run.specs.declared.Went.{Went}
 use Rattle.run.specs.Calls.{callAfter, offer, offering, onOffer, callFor, errandOf, leftOf, waits}
 use Rattle.run.specs.Rows.{CallsWithin, Fits}
-use Rattle.run.specs.Book.{Book, bookOf, Holds, Passed, passes, finishes}
+use Rattle.run.specs.Book.{Book, idles, oneIdle, bookOf, Holds, Passed, passes, finishes}
 use Rattle.run.specs.Run.{Run, noted, stepRun, runFrom}
 use Rattle.run.specs.Drive.{Good, Rows}
-use Rattle.run.proofs.Steps.{moved-turn, acting, ended-noted, going-noted}
+use Rattle.run.proofs.Steps.{moved-turn, idle-turn, acting, ended-noted, going-noted}
 use Rattle.run.proofs.After.{rows-after, counts-after}
 
 abbrev pub state : Bench → ℕ → Book → Run
@@ -150,6 +151,45 @@ module _ (n : ℕ) (start : Run) (table turns next : List ℕ) (w : Bench) (head
   -- and of one that ended it
   pub may-end : Holds e next head latest own × (Fits point list (s .listed) (k + 1) × (CallsWithin latest × ((s .begun < 65536) × ((s .ended < 65536) × (length told ≡ 1025)))))
   may-end = (holds, (fits, (kept .rows .within, (omega (arith, kept .begun, good .few), (omega (arith, kept .ended, good .few), kept .rows .tolds)))))
+
+  -- a station at rest with no call left leaves all as it was, but for a turn and an idle turn more
+  idle-kept : eqb (num p) 0 ≡ true → d ≡ 0 → Kept n start table turns next w head latest wait own told point list (oneIdle s) (k + 1)
+  unfolding noted
+  idle-kept rests none =
+      let step : stepRun table (state w k b) i ≡ state w (k + 1) (idles b) =
+      ap (λ z. state (z .bench) (k + 1) (noted table w (k + 1) i (callFor p d l) (stationAt (z .bench) i .own) (z .answer) b))
+      (idle-turn w table i d (kept .isSound) low high rests none) in
+      let r = kept .rows in
+      record {
+        count = omega arith;
+        isSound = kept .isSound;
+        same = kept .same;
+        rows = record {
+          nexts = r .nexts;
+          heads = r .heads;
+          latests = r .latests;
+          owns = r .owns;
+          tolds = r .tolds;
+          stations = r .stations;
+          fits = r .fits;
+          within = r .within;
+          mine = r .mine;
+          waiters = r .waiters;
+          waiting = r .waiting;
+        };
+        idle = omega (arith, kept .idle);
+        begun = omega (arith, kept .begun);
+        ended = omega (arith, kept .ended);
+        run = ap (λ z. runFrom table z (drop (k + 1) turns)) (sym step) ∙ ap (λ j. runFrom table (stepRun table (state w k b) j) (drop (k + 1) turns)) is ∙ sym (one-more table turns (state w k b) k more) ∙ kept .run;
+      }
+
+  pub after-idle : (errand : Errand) (test : Bool) (r : Tally) → errand ≡ e → test ≡ (errand .rests && eqb (errand .call) 0) → test ≡ true → r ≡ oneIdle s
+      → Kept n start table turns next w head latest wait own told point list r (k + 1)
+  after-idle errand test r errand-is tested taken idled =
+      let both : (eqb (num p) 0 && eqb (callFor p d l) 0) ≡ true = ap (λ x. x .rests && eqb (x .call) 0) (sym errand-is) ∙ sym tested ∙ taken in
+      let rests = and-left (eqb (num p) 0) (eqb (callFor p d l) 0) both in
+      let mine : callFor p d l ≡ d = rw rests refl in
+      rw idled (idle-kept rests (sym mine ∙ eqb-true (callFor p d l) 0 (and-right (eqb (num p) 0) (eqb (callFor p d l) 0) both)))
 
   module _ (to : ℕ) (o : Call) (m : Moved) (reaches : to ≡ reaching p i t) (offers : o ≡ offer table (cond (eqb (num p) 0) (callFor p d l) 0))
       (moves : m ≡ moveOf (taken w i to) (o .kind) (o .a) (o .b)) where

@@ -20,6 +20,7 @@ use Rattle.method.specs.Effect.{oneWord, raises, loses, losers, points}
 use Rattle.bench.specs.declared.Bench.{Bench}
 use Rattle.bench.specs.declared.Moved.{Moved}
 use Rattle.bench.specs.Record.{stationAt, onBench}
+use Rattle.bench.specs.Record.{turned as benchTurned}
 use Rattle.bench.specs.Sound.{sound}
 use Rattle.bench.specs.Turn.{badStation, badOffer, stepOf, turnOf}
 use Rattle.bench.specs.Reach.{reaching, moveOf}
@@ -105,7 +106,7 @@ module _ (w : Bench) (wait : List ℕ) (i : ℕ) (t : Station) (seen : (j : ℕ)
       ∙ ap (λ x. losers oneWord i (t .saw) (stationAt w) k ++ cond x (suc k ∷ []) []) (one-waits (suc k) h g)
 
 -- a station at rest with no call on offer is idle
-idle-offer : (p : Place) (w : Bench) (i : ℕ) (t : Station) → eqb (num p) 0 ≡ true → stepOf onBench p w i t 3 0 0 .answer ≡ Idle
+idle-offer : (p : Place) (w : Bench) (i : ℕ) (t : Station) → eqb (num p) 0 ≡ true → stepOf onBench p w i t 3 0 0 ≡ benchTurned Idle w
 unfolding stepOf row
 idle-offer Rest w i t e = refl
 idle-offer At11 w i t e = absurd (false≢true e)
@@ -118,17 +119,18 @@ idle-offer At18 w i t e = absurd (false≢true e)
 idle-offer At19 w i t e = absurd (false≢true e)
 idle-offer At20 w i t e = absurd (false≢true e)
 
+pub idle-turn : (w : Bench) (table : List ℕ) (i d : ℕ) → sound w ≡ true → 1 ≤ i → i ≤ w .n → eqb (num (stationAt w i .place)) 0 ≡ true → d ≡ 0
+    → turnBy w (offering table i (onOffer (stationAt w i .place) d)) ≡ benchTurned Idle w
+unfolding callOf
+idle-turn w table i d s low high e z =
+    let p = stationAt w i .place in
+    let none : onOffer p d ≡ 0 = rw (e, z) refl in
+    ap (λ c. turnBy w (offering table i c)) none ∙ turn-is-step w i 3 0 0 s (station-good w i low high) refl ∙ idle-offer p w i (stationAt w i) e
+
 -- so one that acts at rest has a call on offer
 pub acting : (w : Bench) (table : List ℕ) (i d : ℕ) → sound w ≡ true → 1 ≤ i → i ≤ w .n → eqb (num (stationAt w i .place)) 0 ≡ true
     → (turnBy w (offering table i (onOffer (stationAt w i .place) d)) .answer ≡ Idle → ⊥) → 0 < d
-unfolding callOf
-acting w table i zero s low high e h =
-    let p = stationAt w i .place in
-    let z : onOffer p 0 ≡ 0 = rw e in
-    absurd
-    (h
-    (ap (λ c. turnBy w (offering table i c) .answer) z ∙ ap (λ x. x .answer) (turn-is-step w i 3 0 0 s (station-good w i low high) refl)
-    ∙ idle-offer p w i (stationAt w i) e))
+acting w table i zero s low high e h = absurd (h (ap (λ x. x .answer) (idle-turn w table i 0 s low high e refl)))
 acting w table i (suc d) s low high e h = omega arith
 
 -- the book of the loop is the run's

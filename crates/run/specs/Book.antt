@@ -110,6 +110,10 @@ idles b =
       ended = b .ended;
     }
 
+-- the counts with an idle turn more
+abbrev pub oneIdle : Tally → Tally
+oneIdle s = record { idle = s .idle + 1; begun = s .begun; ended = s .ended; listed = s .listed }
+
 -- the book in rows of numbers, with its counts
 abbrev pub bookOf : List ℕ → List ℕ → List ℕ → List ℕ → List ℕ → List ℕ → Tally → Book
 bookOf upcoming latest own told point list s =

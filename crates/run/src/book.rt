@@ -4,7 +4,7 @@ ghost use mathlib.Core.Bool.{cond};
 ghost use mathlib.Core.List.{[], _∷_};
 ghost use Prim.Native.Nat.{_<_, _≤_};
 ghost use lib.ListN.{length};
-ghost use Rattle.run.specs.Book.{Holds, Acted, raisers, Gone, bookOf, finishes, Passed};
+ghost use Rattle.run.specs.Book.{oneIdle, Holds, Acted, raisers, Gone, bookOf, finishes, Passed};
 ghost use Rattle.run.specs.Rows.{rows, enterCall, allEnterCalls, callsOf, waiters, CallsWithin, Fits};
 use crate::Errand;
 use crate::Finish;
@@ -192,6 +192,19 @@ pub(crate) fn finished(
     }
 }
 
+// A turn passes with nothing to do.
+pub(crate) fn idled(s: Tally) -> Tally
+    requires { ⌜ s .idle < 65536 ⌝ }
+    ensures { λ r. ⌜ r ≡ oneIdle s ⌝ }
+{
+    Tally {
+        idle: s.idle + 1,
+        begun: s.begun,
+        ended: s.ended,
+        listed: s.listed,
+    }
+}
+
 // A turn that did not end its call: idle, an operation after which the call goes on, or refused, which counts for nothing.
 pub(crate) fn went(
     s: Tally,
@@ -211,12 +224,7 @@ pub(crate) fn went(
     ensures { λ r. ⌜ Fits (now (point .exit)) (now (list .exit)) (r .listed) (e .turn) ⌝ }
 {
     match x {
-        Answer::Idle => Tally {
-            idle: s.idle + 1,
-            begun: s.begun,
-            ended: s.ended,
-            listed: s.listed,
-        },
+        Answer::Idle => idled(s),
         Answer::Going => going(s, e, w, next, head, latest, wait, own, point, list),
         Answer::Ended { result: _, own: _ } => s,
         Answer::Refused(_) => s,

@@ -1,7 +1,8 @@
 // Whose next call is which: found once for the whole table, so that a turn finds it in one step.
 ghost use mathlib.Core.Path.{_≡_};
-ghost use mathlib.Core.Bool.{cond};
+ghost use mathlib.Core.Bool.{cond, _&&_};
 ghost use Prim.Native.Nat.{_<_, _≤_};
+ghost use lib.Dec.{eqb};
 ghost use lib.ListN.{replicate};
 ghost use Rattle.method.specs.declared.Call.{Call};
 ghost use Rattle.runfile.specs.Layout.{records};
@@ -32,6 +33,15 @@ pub(crate) fn errand(t: Station, turn: u32, station: u32, next: u32, latest: u32
         call: latest,
         rests: false,
     }
+}
+
+// A station at rest with no call left: its turn is idle.
+pub(crate) fn idles(e: Errand) -> bool
+    ensures { λ r. ⌜ r ≡ (e .rests && eqb (e .call) 0) ⌝ }
+{
+    let rests = e.rests;
+    let c = e.call;
+    rests & (c == 0)
 }
 
 // The errand's call as an offer to a station at rest; none where there is no call, and to a station in one.

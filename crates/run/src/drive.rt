@@ -7,8 +7,10 @@ use crate::Drove;
 use crate::Finish;
 use crate::Tally;
 use crate::book::finished;
+use crate::book::idled;
 use crate::book::went;
 use crate::calls::errand;
+use crate::calls::idles;
 use crate::calls::left;
 use crate::calls::offered;
 use crate::calls::waiting;
@@ -54,6 +56,10 @@ pub(crate) fn drive(
         k = k + 1;
         let t = w.stations[at];
         let e = errand(t, k as u32, i, head[at], latest[at]);
+        if idles(e) {
+            s = idled(s);
+            continue;
+        }
         let o = offered(table, e);
         let to = reaches(t, i) as usize;
         let v = w.v;

@@ -9,7 +9,7 @@ went-spec =
     tie.close
     (tie.spec
     (λ c. search needs)
-    (λ c. search needs)
+    (λ c κs. c .before .before .before .before .before .before .before .before .before .pre .1 .1 .1 .1 .1 .1 .1)
     (λ c. search needs)
     (λ c κs.
     let s = c .before .before .before .before .before .before .before .before .before .before .before .before .before .before in
@@ -17,7 +17,9 @@ went-spec =
     (p .0, (p .1 .0, (p .1 .1 .0, (p .1 .1 .1 .0, (p .1 .1 .1 .1 .0, (p .1 .1 .1 .1 .1 .0, p .1 .1 .1 .1 .1 .1 .0)))))))
     (λ c. search needs)
     (λ c. search needs)
-    (λ c. (λ told. simp (c .before .enum-told .given .1), c .before .before .before .before .before .before .before .before .before .before .pre .1 .0))
+    (λ c.
+    let s = c .before .before .before .before .before .before .before .before .before .before in
+    rw (c .idled .ensures) (λ told. simp (c .before .enum-told .given .1), s .pre .1 .0))
     (λ c. search needs)
     (λ c. search needs)
     (λ c. search needs)

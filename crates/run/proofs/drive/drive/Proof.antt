@@ -13,7 +13,7 @@ use Rattle.run.specs.Calls.{offer, callFor}
 use Rattle.run.specs.Book.{bookOf}
 use Rattle.run.specs.Drive.{noTally, Driven}
 use Rattle.run.proofs.Points.{few-listed}
-use Rattle.run.proofs.Loop.{Kept, state, all-turned, few, inside, may-go, may-end, s-small, after-going, after-end}
+use Rattle.run.proofs.Loop.{Kept, state, all-turned, few, inside, may-go, may-end, s-small, after-idle, after-going, after-end}
 use Rattle.run.proofs.drive.drive.Statement.{statement}
 use Rattle.run.proofs.drive.drive.Tie as tie
 
@@ -41,23 +41,23 @@ station-inside c =
 
 reached : (c : tie.After-reaches Inv-loop μ-loop) → c .reaches .result < 33
 reached c =
-    let a = c .before .before .before .before .before .before in
+    let a = c .before .before .before .before .before .before .before .before in
     rw (c .reaches .ensures) (within-at (round a .loop .w) (a .wide .result) (round a .loop .inv .1 .isSound) (station-inside a))
 
 -- what is on offer is the errand's call
 offers : (c : tie.After-offered Inv-loop μ-loop)
-    → let a = c .before .before .before .before .before in
+    → let a = c .before .before .before .before .before .before .before in
     let l = round a .loop in
     let i = a .wide .result in
     let p = stationAt (l .w) i .place in
     c .offered .result ≡ offer (entry (round a) .args .table .now) (cond (eqb (num p) 0) (callFor p (getD (l .head) i 0) (getD (l .latest) i 0)) 0)
-offers c = c .offered .ensures ∙ ap (λ e. offer (entry (round (c .before .before .before .before .before)) .args .table .now) (cond (e .rests) (e .call) 0)) (c .before .errand .ensures)
+offers c = c .offered .ensures ∙ ap (λ e. offer (entry (round (c .before .before .before .before .before .before .before)) .args .table .now) (cond (e .rests) (e .call) 0)) (c .before .before .before .errand .ensures)
 
 -- a law of a move, at this turn
 station-small : (c : tie.After-moved Inv-loop μ-loop) → c .moved .result .reach .station .s ≤ 4294967292
 station-small c =
     let q = c .before .before .before .before .before in
-    let a = c .before .before .before .before .before .before .before .before .before .before .before in
+    let a = c .before .before .before .before .before .before .before .before .before .before .before .before .before in
     let s = entry (round a) in
     s-small _ _ _ _ _ _ _ _ _ _ _ _ _ _ _ (round a .loop .inv .1) (more a) (s .pre .good) (s .pre .linked .after) (a .wide .result) (a .wide .ensures) (q .reaches .result)
     (q .before .offered .result) (c .moved .result) (q .reaches .ensures) (offers (q .before)) (c .moved .ensures)
@@ -94,6 +94,15 @@ drive-spec =
     (λ c. let a = c .before .before .before in omega (arith, station-inside a, round a .loop .inv .1 .rows .latests))
     (λ c κs. search needs)
     (λ c κs. search needs)
+    (λ c κs. let a = c .before .before .before .before .before .before in omega (arith, round a .loop .inv .1 .idle, more a, entry (round a) .pre .good .few))
+    (λ c. omega (arith, more (c .before .before .before .before .before .before .before)))
+    (λ c.
+    let a = c .before .before .before .before .before .before .before in
+    let s = entry (round a) in (
+      refl,
+      after-idle _ _ _ _ _ _ _ _ _ _ _ _ _ _ _ (round a .loop .inv .1) (more a) (s .pre .good) (s .pre .linked .after) (a .wide .result) (a .wide .ensures) _ _ _ (c .before .before .before .errand .ensures) (c .before .before .idles .ensures) (c .before .if1 .taken) (c .idled .ensures),
+    ))
+    (λ c κs. search needs)
     (λ c κs. search needs)
     (λ c. omega (arith, reached c))
     (λ c. omega (arith, reached (c .before .before)))
@@ -105,44 +114,44 @@ drive-spec =
     (λ c. reached (c .before .before .before .before .before .before .before .before .before .before .before))
     (λ c. omega (arith, reached (c .before .before .before .before .before .before .before .before .before .before .before)))
     (λ c. reached (c .before .before .before .before .before .before .before .before .before .before .before))
-    (λ c. omega (arith, station-inside (c .before .before .before .before .before .before .before .before .before .before .before .before .before .before .before .before .before)))
-    (λ c. station-inside (c .before .before .before .before .before .before .before .before .before .before .before .before .before .before .before .before .before))
+    (λ c. omega (arith, station-inside (c .before .before .before .before .before .before .before .before .before .before .before .before .before .before .before .before .before .before .before)))
+    (λ c. station-inside (c .before .before .before .before .before .before .before .before .before .before .before .before .before .before .before .before .before .before .before))
     (λ c κs. station-small (c .before .before .before .before .before .before))
     (λ c. c .match .keys1)
     (λ c κs. search needs)
     (λ c κs.
-    let a = c .before .before .before .before .before .before .before .before .before .before .before .before .before .before .before .before .before .before .before .before .before .before .before .before .before .before in
+    let a = c .before .before .before .before .before .before .before .before .before .before .before .before .before .before .before .before .before .before .before .before .before .before .before .before .before .before .before .before in
     let s = entry (round a) in
-    rw (c .before .before .before .before .before .before .before .before .before .before .before .before .before .before .before .before .before .before .before .before .before .before .errand .ensures, c .before .before .before .before .before .before .left .ensures) (may-go _ _ _ _ _ _ _ _ _ _ _ _ _ _ _ (round a .loop .inv .1) (more a) (s .pre .good) (s .pre .linked .after) (a .wide .result) (a .wide .ensures)))
-    (λ c. omega (arith, station-inside (c .before .before .before .before .before .before .before .before .before .before .before .before .before .before .before .before .before .before .before .before .before .before .before .before .before .before .before .before .before .before .before .before .before .before .before .before .before)))
-    (λ c. let a = c .before .before .before .before .before .before .before .before .before .before .before .before .before .before .before .before .before .before .before .before .before .before .before .before .before .before .before .before .before .before .before .before .before .before .before .before .before in omega (arith, station-inside a, round a .loop .inv .1 .rows .waiters))
-    (λ c. omega (arith, more (c .before .before .before .before .before .before .before .before .before .before .before .before .before .before .before .before .before .before .before .before .before .before .before .before .before .before .before .before .before .before .before .before .before .before .before .before .before)))
+    rw (c .before .before .before .before .before .before .before .before .before .before .before .before .before .before .before .before .before .before .before .before .before .before .before .before .errand .ensures, c .before .before .before .before .before .before .left .ensures) (may-go _ _ _ _ _ _ _ _ _ _ _ _ _ _ _ (round a .loop .inv .1) (more a) (s .pre .good) (s .pre .linked .after) (a .wide .result) (a .wide .ensures)))
+    (λ c. omega (arith, station-inside (c .before .before .before .before .before .before .before .before .before .before .before .before .before .before .before .before .before .before .before .before .before .before .before .before .before .before .before .before .before .before .before .before .before .before .before .before .before .before .before)))
+    (λ c. let a = c .before .before .before .before .before .before .before .before .before .before .before .before .before .before .before .before .before .before .before .before .before .before .before .before .before .before .before .before .before .before .before .before .before .before .before .before .before .before .before in omega (arith, station-inside a, round a .loop .inv .1 .rows .waiters))
+    (λ c. omega (arith, more (c .before .before .before .before .before .before .before .before .before .before .before .before .before .before .before .before .before .before .before .before .before .before .before .before .before .before .before .before .before .before .before .before .before .before .before .before .before .before .before)))
     (λ c.
     let z = c .before .before .before .before .before .before .before .before .before .before in
     let m = z .before .before .before .before .before .before .before .before .before .before .before .before .before .before .before .before in
     let q = m .before .before .before .before .before in
-    let a = c .before .before .before .before .before .before .before .before .before .before .before .before .before .before .before .before .before .before .before .before .before .before .before .before .before .before .before .before .before .before .before .before .before .before .before .before .before in
+    let a = c .before .before .before .before .before .before .before .before .before .before .before .before .before .before .before .before .before .before .before .before .before .before .before .before .before .before .before .before .before .before .before .before .before .before .before .before .before .before .before in
     let s = entry (round a) in (
       refl,
       after-going _ _ _ _ _ _ _ _ _ _ _ _ _ _ _ (round a .loop .inv .1) (more a) (s .pre .good) (s .pre .linked .after) (a .wide .result) (a .wide .ensures) (q .reaches .result) (q .before .offered .result) (m .moved .result)
-          (q .reaches .ensures) (offers (q .before)) (m .moved .ensures) _ _ _ _ _ _ _ _ _ (z .before .before .before .before .before .before .before .before .match .keys2) (q .before .before .errand .ensures) (z .before .before .before .before .before .before .before .left .ensures) (z .before .before .before .before .before .before .before .before .before .waiting .ensures) (z .went .ensures .0) (z .went .ensures .1),
+          (q .reaches .ensures) (offers (q .before)) (m .moved .ensures) _ _ _ _ _ _ _ _ _ (z .before .before .before .before .before .before .before .before .match .keys2) (q .before .before .before .before .errand .ensures) (z .before .before .before .before .before .before .before .left .ensures) (z .before .before .before .before .before .before .before .before .before .waiting .ensures) (z .went .ensures .0) (z .went .ensures .1),
     ))
     (λ c κs.
-    let a = c .before .before .before .before .before .before .before .before .before .before .before .before .before .before .before .before .before .before .before .before .before .before .before .before .before .before .before in
+    let a = c .before .before .before .before .before .before .before .before .before .before .before .before .before .before .before .before .before .before .before .before .before .before .before .before .before .before .before .before .before in
     let s = entry (round a) in
-    rw (c .before .before .before .before .before .before .before .before .before .before .before .before .before .before .before .before .before .before .before .before .before .before .before .errand .ensures) (may-end _ _ _ _ _ _ _ _ _ _ _ _ _ _ _ (round a .loop .inv .1) (more a) (s .pre .good) (s .pre .linked .after) (a .wide .result) (a .wide .ensures)))
-    (λ c. omega (arith, station-inside (c .before .before .before .before .before .before .before .before .before .before .before .before .before .before .before .before .before .before .before .before .before .before .before .before .before .before .before .before .before .before .before .before .before .before .before .before .before .before .before .before)))
-    (λ c. let a = c .before .before .before .before .before .before .before .before .before .before .before .before .before .before .before .before .before .before .before .before .before .before .before .before .before .before .before .before .before .before .before .before .before .before .before .before .before .before .before .before in omega (arith, station-inside a, round a .loop .inv .1 .rows .waiters))
-    (λ c. omega (arith, more (c .before .before .before .before .before .before .before .before .before .before .before .before .before .before .before .before .before .before .before .before .before .before .before .before .before .before .before .before .before .before .before .before .before .before .before .before .before .before .before .before)))
+    rw (c .before .before .before .before .before .before .before .before .before .before .before .before .before .before .before .before .before .before .before .before .before .before .before .before .before .errand .ensures) (may-end _ _ _ _ _ _ _ _ _ _ _ _ _ _ _ (round a .loop .inv .1) (more a) (s .pre .good) (s .pre .linked .after) (a .wide .result) (a .wide .ensures)))
+    (λ c. omega (arith, station-inside (c .before .before .before .before .before .before .before .before .before .before .before .before .before .before .before .before .before .before .before .before .before .before .before .before .before .before .before .before .before .before .before .before .before .before .before .before .before .before .before .before .before .before)))
+    (λ c. let a = c .before .before .before .before .before .before .before .before .before .before .before .before .before .before .before .before .before .before .before .before .before .before .before .before .before .before .before .before .before .before .before .before .before .before .before .before .before .before .before .before .before .before in omega (arith, station-inside a, round a .loop .inv .1 .rows .waiters))
+    (λ c. omega (arith, more (c .before .before .before .before .before .before .before .before .before .before .before .before .before .before .before .before .before .before .before .before .before .before .before .before .before .before .before .before .before .before .before .before .before .before .before .before .before .before .before .before .before .before)))
     (λ c.
     let z = c .before .before .before .before .before .before .before .before .before .before .before .before in
     let m = z .before .before .before .before .before .before .before .before .before .before .before .before .before .before .before .before .before in
     let q = m .before .before .before .before .before in
-    let a = c .before .before .before .before .before .before .before .before .before .before .before .before .before .before .before .before .before .before .before .before .before .before .before .before .before .before .before .before .before .before .before .before .before .before .before .before .before .before .before .before in
+    let a = c .before .before .before .before .before .before .before .before .before .before .before .before .before .before .before .before .before .before .before .before .before .before .before .before .before .before .before .before .before .before .before .before .before .before .before .before .before .before .before .before .before .before in
     let s = entry (round a) in (
       refl,
       after-end _ _ _ _ _ _ _ _ _ _ _ _ _ _ _ (round a .loop .inv .1) (more a) (s .pre .good) (s .pre .linked .after) (a .wide .result) (a .wide .ensures) (q .reaches .result) (q .before .offered .result) (m .moved .result)
-          (q .reaches .ensures) (offers (q .before)) (m .moved .ensures) _ _ _ _ _ _ _ _ _ _ _ (z .before .before .before .before .before .before .before .before .x .given .1) (q .before .before .errand .ensures) (z .before .before .before .before .before .before .before .before .before .before .waiting .ensures) (z .finished .ensures .0) (z .finished .ensures .1),
+          (q .reaches .ensures) (offers (q .before)) (m .moved .ensures) _ _ _ _ _ _ _ _ _ _ _ (z .before .before .before .before .before .before .before .before .x .given .1) (q .before .before .before .before .errand .ensures) (z .before .before .before .before .before .before .before .before .before .before .waiting .ensures) (z .finished .ensures .0) (z .finished .ensures .1),
     ))
     (λ c. c .before .loop .inv .1 .rows .heads ∙ sym (entry (c .before) .pre .rows .heads))
     (λ c. c .before .loop .inv .1 .rows .latests ∙ sym (entry (c .before) .pre .rows .latests))
