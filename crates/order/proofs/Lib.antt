@@ -1,1 +1,4 @@
 pub mod Bridge
+pub mod Lists
+pub mod Kept
+pub mod Turns
