@@ -192,7 +192,7 @@ follows {m} {w} s h u =
     record { good = r .0; inv = r .1; shape = row-shape (t .place) w i t (u .kind) (u .a) (u .b) s })
 
 -- the same at every place
-everywhere : {X : Type 0} (d : X) (k i : ℕ) → getD (replicate k d) i d ≡ d
+pub everywhere : {X : Type 0} (d : X) (k i : ℕ) → getD (replicate k d) i d ≡ d
 everywhere d zero i = refl
 everywhere d (suc k) zero = refl
 everywhere d (suc k) (suc i) = everywhere d k i

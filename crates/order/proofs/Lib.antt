@@ -6,3 +6,6 @@ pub mod Owns
 pub mod Same
 pub mod Turns
 pub mod Demands
+pub mod Books
+pub mod Plans
+pub mod Files

@@ -21,7 +21,7 @@ use Rattle.method.proofs.Inv.{Inv, free-is-rest}
 use Rattle.bench.specs.declared.Bench.{Bench}
 use Rattle.bench.specs.Record.{blank, stationAt}
 use Rattle.bench.specs.Sound.{sound}
-use Rattle.bench.specs.Promise.{Turn, turnBy, after, counted, operations, OwnTurnsCount}
+use Rattle.bench.specs.Promise.{Turn, turnBy, after, counted, operations, OwnTurns, OwnTurnsCount}
 use Rattle.bench.proofs.Sounds.{facts}
 use Rattle.bench.proofs.Promised.{turn-sound, kept-sound}
 use Rattle.run.proofs.Start.{fresh-bench}
@@ -32,7 +32,7 @@ use Rattle.order.proofs.Bridge.{only, view, Shape, eventsIn, follows, b
 use Rattle.order.proofs.Kept.{in-call, Kept, Unbegun, unbegun-goes, later, recount}
 use Rattle.order.proofs.Events.{through-begin, through-points, through-end}
 use Rattle.order.proofs.Owns.{Took, Owns, going, ended}
-use Rattle.order.proofs.Same.{enter-all}
+use Rattle.order.proofs.Same.{enter-all, opening}
 
 -- a station at rest has had no own turns
 rest-owns : (w : Bench) (i : ℕ) → sound w ≡ true → length (w .stations) ≡ 33 → eqb (num (stationAt w i .place)) 0 ≡ true → stationAt w i .own ≡ 0
@@ -108,33 +108,56 @@ pub record Held (x now : ℕ) (w : Bench) (g : Log) : Type 0 where
   pub kept : Kept x now (λ i. stationAt w i .own) m g
   pub owns : Owns (g .own) (g .last)
 
+module _ {x now : ℕ} {w : Bench} {g : Log} (h : Held x now w g) (u : Turn) where
+  -- a station at rest has had no own turns, and one that is not is not free
+  rest : let rests = eqb (num (stationAt w (u .station) .place)) 0 in
+      (rests ≡ true → stationAt w (u .station) .own ≡ 0) × (rests ≡ false → h .m .phase (u .station) ≡ Free → ⊥)
+  rest =
+      let i = u .station in
+      (rest-owns w i (h .isSound) (h .shape .1 .1 .1), λ e q. false≢true (sym e ∙ eq-eqb (num (stationAt w i .place)) 0 (free-is-rest (h .inv) i q)))
+
+  -- own turns in the bench are counted
+  pub counts : (j : ℕ) → stationAt (turnBy w u .bench) j .own ≡ counted j (stationAt w j .own) u (turnBy w u .answer)
+  unfolding after operations OwnTurnsCount
+  counts j = own-turns w (h .shape .1 .1 .1) (h .isSound) (u ∷ []) (record { station = j; kind = 0; a = 0; b = 0 }) .counts
+
+  pub own-turn : OwnTurns w [] u (stationAt w (u .station) .own)
+  unfolding after operations OwnTurnsCount
+  own-turn = own-turns w (h .shape .1 .1 .1) (h .isSound) [] u
+
+  pub same-size : turnBy w u .bench .n ≡ w .n
+  same-size = follows (h .shape) (h .inv) u .shape .0
+
 pub turn-held : {x now : ℕ} {w : Bench} {g : Log} → Held x now w g → (c : ℕ) (u : Turn)
     → (operates (turnBy w u .answer) ≡ true → eqb (num (stationAt w (u .station) .place)) 0 ≡ true → Unbegun g c)
     → Held x (now + 1) (turnBy w u .bench) (logged w (now + 1) c u (turnBy w u .answer) g)
-unfolding after operations OwnTurnsCount
+unfolding after
 turn-held {x} {now} {w} {g} h c u free =
-    let i = u .station in
     let y = turnBy w u .answer in
     let k = later (h .kept) (now + 1) (omega arith) in
-    let t : 1 ≤ now + 1 = omega arith in
     let f = follows (h .shape) (h .inv) u in
-    let l = h .shape .1 .1 .1 in
-    let zero : eqb (num (stationAt w i .place)) 0 ≡ true → stationAt w i .own ≡ 0 = rest-owns w i (h .isSound) l in
-    let busy : eqb (num (stationAt w i .place)) 0 ≡ false → h .m .phase i ≡ Free → ⊥ =
-    λ e q. false≢true (sym e ∙ eq-eqb (num (stationAt w i .place)) 0 (free-is-rest (h .inv) i q)) in
-    let counts : (j : ℕ) → stationAt (turnBy w u .bench) j .own ≡ counted j (stationAt w j .own) u y =
-    λ j. own-turns w l (h .isSound) (u ∷ []) (record { station = j; kind = 0; a = 0; b = 0 }) .counts in
-    let own = own-turns w l (h .isSound) [] u in
+    let r = rest h u in
+    let own = own-turn h u in
     record {
       m = watched (h .m) (eventsIn w u y);
       isSound = turn-sound w u (h .isSound);
       shape = (refl, f .shape .1);
       inv = subst⁻¹ (λ (n : ℕ). Inv n (view (turnBy w u .bench)) (watched (h .m) (eventsIn w u y))) (f .shape .0) (f .inv);
-      kept = recount (logged-keeps t k w c u zero busy y free (f .good)) counts;
+      kept = recount (logged-keeps (omega arith) k w c u (r .0) (r .1) y free (f .good)) (counts h u);
       owns =
-          logged-owns t k w c u zero busy y free (h .owns) (own .going)
+          logged-owns (omega arith) k w c u (r .0) (r .1) y free (h .owns) (own .going)
           (λ result took e. let q = own .ended result took e in subst⁻¹ Took (sym (q .0)) (q .1));
     }
+
+-- what the call of an operation has had before it is what its station has
+pub turn-had : {x now : ℕ} {w : Bench} {g : Log} → Held x now w g → (c : ℕ) (u : Turn)
+    → (eqb (num (stationAt w (u .station) .place)) 0 ≡ true → Unbegun g c)
+    → let b = opening (eqb (num (stationAt w (u .station) .place)) 0) (now + 1) c (u .station) (call (u .kind) (u .a) (u .b)) g in
+    b .own (b .latest (u .station)) ≡ stationAt w (u .station) .own
+turn-had {x} {now} {w} {g} h c u free =
+    let r = rest h u in
+    begun-owns (omega arith) (later (h .kept) (now + 1) (omega arith)) w c u (r .0) (r .1) (h .owns) (eqb (num (stationAt w (u .station) .place)) 0)
+    (λ e. (free e, r .0 e)) (r .1) .1 .0
 
 -- a fresh bench, and no calls
 pub fresh-held : (x n : ℕ) → 1 ≤ n → n ≤ 32 → Held x 0 (blank x n) noCalls

@@ -5,6 +5,7 @@ use mathlib.Core.List.{List, [], _∷_}
 use Prim.Native.Nat.{ℕ, _+_, _≤_}
 use lib.Dec.{eqb}
 use lib.ListN.{getD}
+use Rattle.method.specs.declared.Call.{Call}
 use Rattle.method.specs.Record.{call}
 use Rattle.bench.specs.Record.{stationAt}
 use Rattle.bench.specs.Turn.{freshOf}
@@ -34,11 +35,11 @@ abbrev pub logOfFile : List ℕ → Log
 logOfFile file =
     logRun (tableOf file) (record { bench = freshOf (readOf file .x) (readOf file .n) .bench; turns = 0; book = emptyBook (tableOf file) }) noCalls (turnsOf file)
 
--- a call that has begun is the table's of that number
-pub record InTable (table : List ℕ) (g : Log) (c : ℕ) : Type 0 where
+-- the call o of a station is the table's of number c
+pub record InTable (table : List ℕ) (c station : ℕ) (o : Call) : Type 0 where
   pub number : (1 ≤ c) × (c ≤ records table)
-  pub station : g .station c ≡ callOf table c .station
-  pub what : g .call c ≡ call (callOf table c .kind) (callOf table c .a) (callOf table c .b)
+  pub maker : station ≡ callOf table c .station
+  pub what : o ≡ call (callOf table c .kind) (callOf table c .a) (callOf table c .b)
 
 -- what the book says of a call is what is known of it: own turns, the answer plus 1 once it has ended, the turn of its point
 pub record Booked (b : Book) (g : Log) (c : ℕ) : Type 0 where
@@ -49,7 +50,8 @@ pub record Booked (b : Book) (g : Log) (c : ℕ) : Type 0 where
 pub record FileRun (file : List ℕ) : Type 0 where
   -- demand 3, of the very list that the report prints
   pub demand : Demand3 (readOf file .x) (runOfFile file .bench .v .second) (logOfFile file) (runOfFile file .book .list)
-  pub calls : (c : ℕ) → 1 ≤ logOfFile file .first c → InTable (tableOf file) (logOfFile file) c
+  -- a call that has begun is the table's of that number
+  pub calls : (c : ℕ) → 1 ≤ logOfFile file .first c → InTable (tableOf file) c (logOfFile file .station c) (logOfFile file .call c)
   pub booked : (c : ℕ) → Booked (runOfFile file .book) (logOfFile file) c
 
 unfoldable pub EveryFile : Type 0
