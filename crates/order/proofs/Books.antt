@@ -1,7 +1,7 @@
 -- The book that is kept of a file's run says what the log knows, turn by turn. Assumes nothing.
 use mathlib.Core.Path.{_≡_, refl, _∙_, sym, ap, subst}
 use mathlib.Core.Bool.{Bool, true, false, cond, not, _&&_}
-use mathlib.Core.List.{List, [], _∷_, _++_}
+use mathlib.Core.List.{List, [], _∷_}
 use Prim.Native.Nat.{ℕ, _+_, _≤_, _<_}
 use native.Mathlib.Omega.{arith}
 use borrow.Author.Tests.{ne-eqb}
@@ -25,7 +25,7 @@ use Rattle.run.specs.Book.{Book}
 use Rattle.run.specs.Book as Book
 use Rattle.run.specs.Run.{noted}
 use Rattle.run.proofs.Books as Rows
-use Rattle.order.specs.Log.{Log, lists, enters, allEnter, ends, acts, pointsIn, logged}
+use Rattle.order.specs.Log.{Log, enters, allEnter, ends, acts, pointsIn, logged}
 use Rattle.order.proofs.Same.{opening, enter-all}
 
 -- a row that is written where a function is

@@ -1,7 +1,7 @@
 -- A bench is a world of the method that has one word, number 0, and a turn of the bench is a turn of that world, one line a place. Assumes nothing.
 use mathlib.Core.Path.{_≡_, refl, _∙_, sym, ap, subst, subst⁻¹}
 use mathlib.Core.Bool.{Bool, true, false, cond, not}
-use mathlib.Core.List.{List, []}
+use mathlib.Core.List.{List}
 use Prim.Native.Nat.{ℕ, zero, suc, _<_}
 use native.Mathlib.Omega.{arith}
 use lib.Dec.{eqb}
@@ -14,14 +14,14 @@ use Rattle.method.specs.declared.Place.{Place}
 use Rattle.method.specs.declared.Place.the-variants.{Rest, At11, At12, At13, At14, At15, At16, At18, At19, At20}
 use Rattle.method.specs.declared.Station.{Station}
 use Rattle.method.specs.declared.Answer.{Answer}
-use Rattle.method.specs.declared.Answer.the-variants.{Idle, Going, Ended, Refused}
+use Rattle.method.specs.declared.Answer.the-variants.{Idle, Going, Ended}
 use Rattle.method.specs.Record.{call, resting}
 use Rattle.method.specs.Table.{handed, goes, begun, grown, row}
 use Rattle.method.specs.Effect.{oneWord, points}
-use Rattle.method.specs.World.{World, Stepped, onWorld, upd, turnAt, fresh, taking}
+use Rattle.method.specs.World.{World, Stepped, onWorld, upd, taking}
 use Rattle.method.specs.World as World
 use Rattle.method.specs.Watch.{Event, Watcher, watching, watched, Good}
-use Rattle.method.specs.Events.{eventsOf, shown}
+use Rattle.method.specs.Events.{eventsOf}
 use Rattle.method.proofs.Upd.{upd-all, upd-id}
 use Rattle.method.proofs.Inv.{Inv, start, turn}
 use Rattle.bench.specs.declared.Bench.{Bench}

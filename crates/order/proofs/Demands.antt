@@ -7,7 +7,7 @@ use native.Mathlib.Omega.{arith}
 use native.Mathlib.Decide.{decLe}
 use borrow.Author.Tests.{ne-eqb}
 use lib.Dec.{eqb}
-use lib.ListN.{length, getD}
+use lib.ListN.{getD}
 use Rattle.method.specs.Record.{num, call}
 use Rattle.method.specs.Events.{operates}
 use Rattle.method.proofs.Upd.{upd-other}

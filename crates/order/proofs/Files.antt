@@ -3,15 +3,13 @@ use mathlib.Core.Path.{_≡_, refl, _∙_, sym, ap, subst⁻¹}
 use mathlib.Core.Logic.{⊎-elim}
 use mathlib.Core.Bool.{Bool, true, false, cond, _&&_, false≢true}
 use mathlib.Core.List.{List, [], _∷_}
-use Prim.Native.Nat.{ℕ, zero, suc, _+_, _≤_, _<_}
+use Prim.Native.Nat.{ℕ, suc, _+_, _≤_, _<_}
 use native.Mathlib.Omega.{arith}
 use borrow.Author.Tests.{eq-eqb, ne-eqb}
 use lib.Dec.{eqb}
 use lib.ListN.{length, getD, set}
 use Rattle.rules.proofs.Facts.{and-left, and-right}
-use Rattle.method.specs.declared.Place.{Place}
 use Rattle.method.specs.declared.Answer.{Answer}
-use Rattle.method.specs.declared.Answer.the-variants.{Going, Ended}
 use Rattle.method.specs.Record.{num, call}
 use Rattle.method.specs.Events.{operates}
 use Rattle.bench.specs.declared.Bench.{Bench}
@@ -29,7 +27,7 @@ use Rattle.run.proofs.Files.{reads-well}
 use Rattle.run.proofs.Start.{fresh-bench, how-many, first-call}
 use Rattle.order.specs.Log.{Log, noCalls}
 use Rattle.order.specs.Demand.{Demand3}
-use Rattle.order.specs.Files.{logStep, logRun, logOfFile, FileRun, EveryFile}
+use Rattle.order.specs.Files.{logStep, logRun, logOfFile, EveryFile}
 use Rattle.order.proofs.Bridge.{everywhere}
 use Rattle.order.proofs.Same.{opens}
 use Rattle.order.proofs.Turns.{Held, counts, own-turn, same-size, turn-held, turn-had, fresh-held}

@@ -1,7 +1,7 @@
 -- The invariant between what is watched of a run and the log of its calls, and that each event keeps it. Assumes nothing.
 use mathlib.Core.Path.{_≡_, refl, _∙_, sym, ap, subst, subst⁻¹}
-use mathlib.Core.Bool.{Bool, true, false, cond, not, _&&_}
-use mathlib.Core.List.{List, [], _∷_, _++_, map}
+use mathlib.Core.Bool.{cond}
+use mathlib.Core.List.{[], _∷_, _++_}
 use Prim.Native.Nat.{ℕ, _+_, _≤_}
 use native.Mathlib.Omega.{arith}
 use native.Mathlib.Decide.{decLe}
@@ -9,9 +9,9 @@ use borrow.Author.Tests.{eq-eqb, ne-eqb}
 use lib.Dec.{eqb}
 use Rattle.method.specs.declared.Call.{Call}
 use Rattle.method.specs.World.{upd}
-use Rattle.method.specs.Watch.{answer, left, Agrees, Phase, Free, Begun, Done, Event, Begin, Point, End, Watcher, putPhase, pointed, watch, watched, Waits, Ends, Fits, Good}
+use Rattle.method.specs.Watch.{answer, left, Agrees, Phase, Free, Begun, Done, Watcher, putPhase, pointed}
 use Rattle.method.proofs.Upd.{upd-same, upd-other, upd-all}
-use Rattle.order.specs.Log.{Log, begins, works, lists, enters, allEnter, ends, acts}
+use Rattle.order.specs.Log.{Log, begins, works, lists, ends}
 use Rattle.order.specs.Accepted.{times, Pairs, answered, served}
 use Rattle.order.proofs.Lists.{times-more, pairs-more, served-same, answered-same, served-more, answered-other, answered-last}
 
