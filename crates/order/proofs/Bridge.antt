@@ -86,24 +86,6 @@ module _ (w : Bench) (i : ℕ) (inside : i < length (w .stations)) where
   put-station : (x : Answer) (t′ : Station) → shows (turned x (putStation i t′ w)) ≡ record { answer = x; world = World.putStation i t′ (view w) }
   put-station x t′ = put x (w .v) (w .p) (w .a) (w .r) t′ refl refl (λ j. refl) (λ j. refl)
 
-  put-v : (v : Halves) (t′ : Station) → shows (turned Going (record { n = w .n; v = v; p = w .p; a = w .a; r = w .r; stations = set (w .stations) i t′ }))
-      ≡ onWorld .give Going (World.putStation i t′ (onWorld .putV i v (view w)))
-  put-v v t′ = put Going v (w .p) (w .a) (w .r) t′ (only-set (halves 0 0) (w .v) v) refl (λ j. refl) (λ j. refl)
-
-  put-p : (p : Claim) (t′ : Station) → shows (turned Going (record { n = w .n; v = w .v; p = p; a = w .a; r = w .r; stations = set (w .stations) i t′ }))
-      ≡ onWorld .give Going (World.putStation i t′ (onWorld .putP i p (view w)))
-  put-p p t′ = put Going (w .v) p (w .a) (w .r) t′ refl (only-set (claim 0 0 0) (w .p) p) (λ j. refl) (λ j. refl)
-
-  put-a : (k : ℕ) (e : Halves) (t′ : Station) → k < length (w .a)
-      → shows (turned Going (record { n = w .n; v = w .v; p = w .p; a = set (w .a) k e; r = w .r; stations = set (w .stations) i t′ }))
-      ≡ onWorld .give Going (World.putStation i t′ (onWorld .putA k e (view w)))
-  put-a k e t′ h = put Going (w .v) (w .p) (set (w .a) k e) (w .r) t′ refl refl (read-set (w .a) k e (halves 0 0) h) (λ j. refl)
-
-  put-r : (k : ℕ) (e : Halves) (t′ : Station) → k < length (w .r)
-      → shows (turned Going (record { n = w .n; v = w .v; p = w .p; a = w .a; r = set (w .r) k e; stations = set (w .stations) i t′ }))
-      ≡ onWorld .give Going (World.putStation i t′ (onWorld .putR k e (view w)))
-  put-r k e t′ h = put Going (w .v) (w .p) (w .a) (set (w .r) k e) t′ refl refl (λ j. refl) (read-set (w .r) k e (halves 0 0) h)
-
   -- a station at rest, by the four tests of its rows
   abbrev atRest : {Out : Type 0} → (Answer → Out) → Out → Bool → Bool → Bool → Bool → ℕ → Out
   atRest still moved none reads other same kind =
@@ -128,14 +110,14 @@ module _ (w : Bench) (i : ℕ) (inside : i < length (w .stations)) where
         rest (eqb (u .kind) 3) (eqb (u .kind) 0) (not (eqb (w .v .second) (u .a))) (eqb (u .a) (u .b)) (u .kind) (begun (call (u .kind) (u .a) (u .b)) (w .v .first) (t .c))
         ∙ ap (λ (word : ℕ → ℕ). row onWorld Rest (record { v = view w .v; p = view w .p; a = view w .a; r = view w .r; st = view w .st; word = word }) i t (u .kind) (u .a) (u .b))
         (sym (upd-id oneWord i 0 refl))
-    bridge At11 h = put-a i _ _ (omega arith)
-    bridge At12 h = put-r i _ _ (omega arith)
-    bridge At13 h = put-p _ _
-    bridge At14 h = put-p _ _
+    bridge At11 h = put Going _ _ (set (w .a) i _) (w .r) _ refl refl (read-set (w .a) i _ (halves 0 0) (omega arith)) (λ j. refl)
+    bridge At12 h = put Going _ _ (w .a) (set (w .r) i _) _ refl refl (λ j. refl) (read-set (w .r) i _ (halves 0 0) (omega arith))
+    bridge At13 h = put Going _ _ (w .a) (w .r) _ refl (only-set (claim 0 0 0) (w .p) _) (λ j. refl) (λ j. refl)
+    bridge At14 h = put Going _ _ (w .a) (w .r) _ refl (only-set (claim 0 0 0) (w .p) _) (λ j. refl) (λ j. refl)
     bridge At15 h = put-station Going _
     bridge At16 h = put-station Going _
-    bridge At18 h = put-r (t .saw .pid) _ _ (omega arith)
-    bridge At19 h = put-v _ _
+    bridge At18 h = put Going _ _ (w .a) (set (w .r) (t .saw .pid) _) _ refl refl (λ j. refl) (read-set (w .r) (t .saw .pid) _ (halves 0 0) (omega arith))
+    bridge At19 h = put Going _ _ (w .a) (w .r) _ (only-set (halves 0 0) (w .v) _) refl (λ j. refl) (λ j. refl)
     bridge At20 h = put-station _ _
 
 -- what a turn of a bench shows

@@ -81,7 +81,7 @@ module _ (f h : ℕ → Call) where
   unfolding answered
   answered-same [] x c e = refl
   answered-same (d ∷ l) x c e =
-      rw (e d (first-in d l)) (ap (cond (eqb c d) (answer x (h d))) (answered-same l (left x (h d)) c (λ j i. e j (others-in j d l i))))
+      rw (e d (first-in d l)) (either-way (eqb c d) (λ t. rw t) (λ o. rw o (answered-same l (left x (h d)) c (λ j i. e j (others-in j d l i)))))
 
 -- one call more
 module _ (f : ℕ → Call) where
@@ -94,7 +94,7 @@ module _ (f : ℕ → Call) where
   pub answered-other : (l : List ℕ) (x c d : ℕ) → (d ≡ c → ⊥) → answered x f (l ++ (c ∷ [])) d ≡ answered x f l d
   unfolding answered
   answered-other [] x c d ne = rw (ne-eqb d c ne)
-  answered-other (e ∷ l) x c d ne = ap (cond (eqb d e) (answer x (f e))) (answered-other l (left x (f e)) c d ne)
+  answered-other (e ∷ l) x c d ne = either-way (eqb d e) (λ t. rw t) (λ o. rw o (answered-other l (left x (f e)) c d ne))
 
   -- and is answered last
   pub answered-last : (l : List ℕ) (x c : ℕ) → times c l ≡ 0 → answered x f (l ++ (c ∷ [])) c ≡ answer (served x f l) (f c)
