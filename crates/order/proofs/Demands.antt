@@ -5,7 +5,6 @@ use mathlib.Core.List.{List, [], _∷_}
 use Prim.Native.Nat.{ℕ, _+_, _≤_, _<_}
 use native.Mathlib.Omega.{arith}
 use native.Mathlib.Decide.{decLe}
-use borrow.Author.Tests.{ne-eqb}
 use lib.Dec.{eqb}
 use lib.ListN.{getD}
 use Rattle.method.specs.Record.{num, call}
@@ -20,40 +19,33 @@ use Rattle.order.specs.Log.{Log, noCalls, logged, logFrom}
 use Rattle.order.specs.Accepted.{times, Accepted}
 use Rattle.order.specs.Demand.{Demand3, EveryRun}
 use Rattle.order.proofs.Lists.{at-in, pairs-map, pairs-at}
-use Rattle.order.proofs.Kept.{unlisted}
+use Rattle.order.proofs.Dated.{Dated, has-point, is-listed}
 use Rattle.order.proofs.Same.{opening, opens}
 use Rattle.order.proofs.Turns.{Held, turn-held, fresh-held}
 
 module _ {x now : ℕ} {w : Bench} {g : Log} (h : Held x now w g) where
-  -- a listed call has a point, and one that has a point is listed
-  has-point : (c : ℕ) → 1 ≤ times c (g .list) → 1 ≤ g .point c
-  has-point c l = elim (decLe 1 (g .point c)) [
-    | yes p ↦ p
-    | no p ↦ absurd (let z = unlisted (h .kept) c (omega arith) in omega arith)
-  ]
-
-  is-listed : (c : ℕ) → 1 ≤ g .point c → times c (g .list) ≡ 1
-  is-listed c p = h .kept .listed c ∙ rw (ne-eqb (g .point c) 0 (λ e. omega arith))
+  abbrev k : Dated now (g .first) (g .point) (g .last) (g .list)
+  k = h .kept .dated
 
   once : (c : ℕ) → times c (g .list) ≤ 1
   once c = elim (decLe 1 (times c (g .list))) [
-    | yes l ↦ let e = is-listed c (has-point c l) in omega arith
+    | yes l ↦ let e = is-listed k c (has-point k c l) in omega arith
     | no l ↦ omega arith
   ]
 
   accepted : Accepted x g (g .list)
   accepted =
       record {
-        every = λ c l. is-listed c (h .kept .before c l .0);
+        every = λ c l. is-listed k c (k .before c l .0);
         once = once;
-        begun = λ c l. h .kept .after c (has-point c l) .0;
+        begun = λ c l. k .after c (has-point k c l) .0;
         order =
             pairs-map (g .list)
             (λ c d i j p l.
-            let a = h .kept .after c (has-point c i) in
-            let b = h .kept .before d l in
+            let a = k .after c (has-point k c i) in
+            let b = k .before d l in
             omega arith)
-            (h .kept .rising);
+            (k .rising);
         answers = h .kept .answers;
       }
 
@@ -64,10 +56,10 @@ module _ {x now : ℕ} {w : Bench} {g : Log} (h : Held x now w g) where
         tenth = λ c b. h .owns .few c;
         accepted = accepted;
         word = h .kept .word ∙ values (h .inv) 0;
-        listed = h .kept .listed;
-        after = h .kept .after;
-        before = h .kept .before;
-        rising = h .kept .rising;
+        listed = k .listed;
+        after = k .after;
+        before = k .before;
+        rising = k .rising;
         order =
             λ i j p q l e.
             let c = getD (g .list) i 0 in
@@ -80,8 +72,8 @@ module _ {x now : ℕ} {w : Bench} {g : Log} (h : Held x now w g) where
                     absurd
                     (let same : j ≡ i = omega arith in
                     let e′ = rw same at e in
-                    let a = h .kept .after c (has-point c (at-in (g .list) i p)) in
-                    let b = h .kept .before c l in
+                    let a = k .after c (has-point k c (at-in (g .list) i p)) in
+                    let b = k .before c l in
                     omega arith)
               ]
             ];

@@ -29,7 +29,7 @@ module _ {x now : ℕ} (t : 1 ≤ now) {owns : ℕ → ℕ} {m : Watcher} {g : L
   end-event result (Begun z o) others w h = absurd w
   end-event result (Done z o y) others w h =
       let e = h .0 in
-      end-keeps k i (e .is) z o (e .word) (e .what) t y result others (h .1 .0) (h .1 .1) w
+      end-keeps k i (e .is) z o (e .word) (e .what) y result others (h .1 .0) (h .1 .1) w
 
   -- its operation counts for a station in a call
   work-event : (m .phase i ≡ Free → ⊥) → Kept x now (upd owns i (owns i + 1)) m (works i g)

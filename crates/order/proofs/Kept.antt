@@ -1,19 +1,15 @@
 -- The invariant between what is watched of a run and the log of its calls, and that each event keeps it. Assumes nothing.
 use mathlib.Core.Path.{_≡_, refl, _∙_, sym, ap, subst, subst⁻¹}
-use mathlib.Core.Bool.{cond}
-use mathlib.Core.List.{[], _∷_, _++_}
 use Prim.Native.Nat.{ℕ, _+_, _≤_}
 use native.Mathlib.Omega.{arith}
-use native.Mathlib.Decide.{decLe}
-use borrow.Author.Tests.{eq-eqb, ne-eqb}
-use lib.Dec.{eqb}
 use Rattle.method.specs.declared.Call.{Call}
 use Rattle.method.specs.World.{upd}
 use Rattle.method.specs.Watch.{answer, left, Agrees, Phase, Free, Begun, Done, Watcher, putPhase, pointed}
 use Rattle.method.proofs.Upd.{upd-same, upd-other, upd-all}
 use Rattle.order.specs.Log.{Log, begins, works, lists, ends}
-use Rattle.order.specs.Accepted.{times, Pairs, answered, served}
-use Rattle.order.proofs.Lists.{times-more, pairs-more, served-same, answered-same, served-more, answered-other, answered-last}
+use Rattle.order.specs.Accepted.{times, answered, served}
+use Rattle.order.proofs.Lists.{served-same, answered-same, served-more, answered-other, answered-last}
+use Rattle.order.proofs.Dated.{Dated, unlisted, no-point, no-end, later, begins-now, points-now, ends-now}
 
 -- what is known of one call, with what the word that starts as x answers it
 pub record Entry : Type 0 where
@@ -57,6 +53,11 @@ Stands i n c e Free = Unit {0}
 Stands i n c e (Begun z o) = InCall i n z o c e × (e .point ≡ 0)
 Stands i n c e (Done z o y) = InCall i n z o c e × ((1 ≤ e .point) × (e .said ≡ y))
 
+-- two entries that agree in all are the same
+same-entry : {e e′ : Entry} → e′ .station ≡ e .station → e′ .what ≡ e .what → e′ .first ≡ e .first → e′ .point ≡ e .point → e′ .last ≡ e .last → e′ .own ≡ e .own → e′ .said ≡ e .said
+    → e′ ≡ e
+same-entry a b c d l o s = λ k. record { station = a k; what = b k; first = c k; point = d k; last = l k; own = o k; said = s k }
+
 -- a station keeps its stand where its call does
 stays : {i n c : ℕ} {e e′ : Entry} (f : Phase) → (Mine i n c e → e′ ≡ e) → Stands i n c e f → Stands i n c e′ f
 stays Free same h = tt
@@ -89,12 +90,7 @@ in-call (Done z o y) busy h = h .0 .is
 
 -- till turn `now`, from the word x, where each station has had so many own turns in its call
 pub record Kept (x now : ℕ) (owns : ℕ → ℕ) (m : Watcher) (g : Log) : Type 0 where
-  pub firsts : (c : ℕ) → g .first c ≤ now
-  pub points : (c : ℕ) → g .point c ≤ now
-  pub after : (c : ℕ) → 1 ≤ g .point c → (1 ≤ g .first c) × (g .first c ≤ g .point c)
-  pub before : (c : ℕ) → 1 ≤ g .last c → (1 ≤ g .point c) × (g .point c ≤ g .last c)
-  pub listed : (c : ℕ) → times c (g .list) ≡ cond (eqb (g .point c) 0) 0 1
-  pub rising : Pairs (λ c d. g .point c ≤ g .point d) (g .list)
+  pub dated : Dated now (g .first) (g .point) (g .last) (g .list)
   pub word : served x (g .call) (g .list) ≡ m .words 0
   pub answers : (c : ℕ) → 1 ≤ g .last c → Agrees (g .call c) (answered x (g .call) (g .list) c) (g .result c)
   pub stands : (i : ℕ) → Stands i (owns i) (g .latest i) (entryOf x g (g .latest i)) (m .phase i)
@@ -104,98 +100,60 @@ abbrev pub Unbegun : Log → ℕ → Type 0
 Unbegun g c = (1 ≤ c) × (g .first c ≡ 0)
 
 module _ {x now : ℕ} {owns : ℕ → ℕ} {m : Watcher} {g : Log} (k : Kept x now owns m g) where
-  pub unlisted : (c : ℕ) → g .point c ≡ 0 → times c (g .list) ≡ 0
-  unlisted c e = k .listed c ∙ rw (eq-eqb (g .point c) 0 e)
+  pub no-end-yet : (c : ℕ) → Unbegun g c → g .last c ≡ 0
+  no-end-yet c u = no-end (k .dated) c (no-point (k .dated) c (u .1))
 
-  -- a call that has not begun has no point and no end
-  no-point : (c : ℕ) → g .first c ≡ 0 → g .point c ≡ 0
-  no-point c e = elim (decLe 1 (g .point c)) [
-    | yes h ↦ absurd (let a = k .after c h in omega arith)
-    | no h ↦ omega arith
-  ]
-
-  no-end : (c : ℕ) → g .point c ≡ 0 → g .last c ≡ 0
-  no-end c e = elim (decLe 1 (g .last c)) [
-    | yes h ↦ absurd (let a = k .before c h in omega arith)
-    | no h ↦ omega arith
-  ]
-
-  pub unbegun-goes : (c : ℕ) → Unbegun g c → g .last c ≡ 0
-  unbegun-goes c u = no-end c (no-point c (u .1))
-
-  pub later : (next : ℕ) → now ≤ next → Kept x next owns m g
-  later next h =
-      record {
-        firsts = λ c. let a = k .firsts c in omega arith;
-        points = λ c. let a = k .points c in omega arith;
-        after = k .after;
-        before = k .before;
-        listed = k .listed;
-        rising = k .rising;
-        word = k .word;
-        answers = k .answers;
-        stands = k .stands;
-      }
+  pub keeps-on : (next : ℕ) → now ≤ next → Kept x next owns m g
+  keeps-on next h = record { dated = later (k .dated) next h; word = k .word; answers = k .answers; stands = k .stands }
 
   pub recount : {owns′ : ℕ → ℕ} → ((j : ℕ) → owns′ j ≡ owns j) → Kept x now owns′ m g
   recount e = subst⁻¹ (λ (owns : ℕ → ℕ). Kept x now owns m g) (λ s j. e j s) k
 
-  pub begin-keeps : (i c : ℕ) (o : Call) → 1 ≤ now → Unbegun g c → owns i ≡ 0 → Kept x now owns (putPhase i (Begun 0 o) m) (begins now c i o g)
-  begin-keeps i c o t u zero =
-      let p = no-point c (u .1) in
-      let l = no-end c p in
-      let others : (d : ℕ) → 1 ≤ times d (g .list) → upd (g .call) c o d ≡ g .call d =
-      λ d h. upd-other (g .call) c o d (λ e. let z = ap (λ c. times c (g .list)) e ∙ unlisted c p in omega arith) in
-      let same : (d : ℕ) → answered x (upd (g .call) c o) (g .list) d ≡ answered x (g .call) (g .list) d =
-      λ d. answered-same (upd (g .call) c o) (g .call) (g .list) x d others in
-      record {
-        firsts = upd-all (g .first) c now (λ d y. y ≤ now) (omega arith) (λ d ne. k .firsts d);
-        points = k .points;
-        after = upd-all (g .first) c now (λ d y. 1 ≤ g .point d → (1 ≤ y) × (y ≤ g .point d)) (λ h. absurd (omega arith)) (λ d ne. k .after d);
-        before = k .before;
-        listed = k .listed;
-        rising = k .rising;
-        word = served-same (upd (g .call) c o) (g .call) (g .list) x others ∙ k .word;
-        answers =
-            λ d h.
-            rw (same d, upd-other (g .call) c o d (λ e. let z = ap (g .last) e ∙ l in omega arith)) (k .answers d h);
-        stands =
-            upd-all (m .phase) i (Begun 0 o) (λ j f. Stands j (owns j) (upd (g .latest) i c j) (entryOf x (begins now c i o g) (upd (g .latest) i c j)) f)
-            (rw (upd-same (g .latest) i c) (
-              record {
-                is =
-                    record {
-                      some = u .0;
-                      mine = upd-same (g .station) c i;
-                      begun = rw (upd-same (g .first) c now) t;
-                      going = l;
-                      turns = upd-same (g .own) c 0 ∙ sym zero;
-                    };
-                word = refl;
-                what = upd-same (g .call) c o;
-              },
-              p,
-            ))
-            (λ j ne.
-            let d = g .latest j in
-            rw (upd-other (g .latest) i c j ne)
-            (stays (m .phase j)
-            (λ h.
-            let off : d ≡ c → ⊥ = λ e. let first = ap (g .first) e ∙ u .1 in omega (arith, h .begun) in
-            λ s.
-            record {
-              station = upd-other (g .station) c i d off s;
-              what = upd-other (g .call) c o d off s;
-              first = upd-other (g .first) c now d off s;
-              point = g .point d;
-              last = g .last d;
-              own = upd-other (g .own) c 0 d off s;
-              said = same d s;
-            })
-            (k .stands j)));
-      }
+  -- station i begins the call o under the number c
+  module _ (i c : ℕ) (o : Call) (t : 1 ≤ now) (u : Unbegun g c) where
+    listed-same : (d : ℕ) → 1 ≤ times d (g .list) → upd (g .call) c o d ≡ g .call d
+    listed-same d h =
+        upd-other (g .call) c o d (λ e. let z = ap (λ c. times c (g .list)) e ∙ unlisted (k .dated) c (no-point (k .dated) c (u .1)) in omega arith)
 
-  -- of a station that is in a call
+    said-same : (d : ℕ) → answered x (upd (g .call) c o) (g .list) d ≡ answered x (g .call) (g .list) d
+    said-same d = answered-same (upd (g .call) c o) (g .call) (g .list) x d listed-same
+
+    begins-mine : owns i ≡ 0 → Mine i (owns i) c (entryOf x (begins now c i o g) c)
+    begins-mine none =
+        record {
+          some = u .0;
+          mine = upd-same (g .station) c i;
+          begun = rw (upd-same (g .first) c now) t;
+          going = no-end-yet c u;
+          turns = upd-same (g .own) c 0 ∙ sym none;
+        }
+
+    others-stand : (j : ℕ) → Stands j (owns j) (g .latest j) (entryOf x (begins now c i o g) (g .latest j)) (m .phase j)
+    others-stand j =
+        let d = g .latest j in
+        stays (m .phase j)
+        (λ h.
+        let off : d ≡ c → ⊥ = λ e. let first = ap (g .first) e ∙ u .1 in omega (arith, h .begun) in
+        same-entry (upd-other (g .station) c i d off) (upd-other (g .call) c o d off) (upd-other (g .first) c now d off) refl refl (upd-other (g .own) c 0 d off)
+        (said-same d))
+        (k .stands j)
+
+    pub begin-keeps : owns i ≡ 0 → Kept x now owns (putPhase i (Begun 0 o) m) (begins now c i o g)
+    begin-keeps none =
+        record {
+          dated = begins-now (k .dated) c (u .1);
+          word = served-same (upd (g .call) c o) (g .call) (g .list) x listed-same ∙ k .word;
+          answers =
+              λ d h.
+              rw (said-same d, upd-other (g .call) c o d (λ e. let z = ap (g .last) e ∙ no-end-yet c u in omega arith)) (k .answers d h);
+          stands =
+              upd-all (m .phase) i (Begun 0 o) (λ j f. Stands j (owns j) (upd (g .latest) i c j) (entryOf x (begins now c i o g) (upd (g .latest) i c j)) f)
+              (rw (upd-same (g .latest) i c)
+              (record { is = begins-mine none; word = refl; what = upd-same (g .call) c o }, no-point (k .dated) c (u .1)))
+              (λ j ne. rw (upd-other (g .latest) i c j ne) (others-stand j));
+        }
+
+  -- station i is in a call
   module _ (i : ℕ) (mine : Mine i (owns i) (g .latest i) (entryOf x g (g .latest i))) where
     abbrev c : ℕ
     c = g .latest i
@@ -207,12 +165,7 @@ module _ {x now : ℕ} {owns : ℕ → ℕ} {m : Watcher} {g : Log} (k : Kept x 
     pub work-keeps : Kept x now (upd owns i (owns i + 1)) m (works i g)
     work-keeps =
         record {
-          firsts = k .firsts;
-          points = k .points;
-          after = k .after;
-          before = k .before;
-          listed = k .listed;
-          rising = k .rising;
+          dated = k .dated;
           word = k .word;
           answers = k .answers;
           stands =
@@ -220,42 +173,25 @@ module _ {x now : ℕ} {owns : ℕ → ℕ} {m : Watcher} {g : Log} (k : Kept x 
               (subst⁻¹ (λ (n : ℕ). Stands i (owns i + 1) c (more (entryOf x g c) n) (m .phase i)) (upd-same (g .own) c (g .own c + 1) ∙ ap (λ n. n + 1) (mine .turns))
               (more-stands i (owns i) c (entryOf x g c) (owns i + 1) (m .phase i) (k .stands i)))
               (λ j ne.
-              let d = g .latest j in
-              stays (m .phase j)
-              (λ h s.
-              record {
-                station = g .station d;
-                what = g .call d;
-                first = g .first d;
-                point = g .point d;
-                last = g .last d;
-                own = upd-other (g .own) c (g .own c + 1) d (apart j ne h) s;
-                said = answered x (g .call) (g .list) d;
-              })
-              (k .stands j));
+              stays (m .phase j) (λ h. same-entry refl refl refl refl refl (upd-other (g .own) c (g .own c + 1) (g .latest j) (apart j ne h)) refl) (k .stands j));
         }
 
-    module _ (z : ℕ) (o : Call) (word : z ≡ 0) (what : g .call c ≡ o) (t : 1 ≤ now) where
-      pub point-keeps : g .point c ≡ 0 → Kept x now owns (pointed i m (Begun z o)) (lists now c g)
-      point-keeps none =
-          let unlisted = unlisted c none in
-          let listed : (d : ℕ) → 1 ≤ times d (g .list) → d ≡ c → ⊥ = λ d h e. let n = ap (λ c. times c (g .list)) e ∙ unlisted in omega arith in
-          let late : (d : ℕ) → upd (g .point) c now d ≤ now = upd-all (g .point) c now (λ d y. y ≤ now) (omega arith) (λ d ne. k .points d) in
+    -- the call o of the one word
+    module _ (z : ℕ) (o : Call) (word : z ≡ 0) (what : g .call c ≡ o) where
+      points-stands : 1 ≤ now → g .point c ≡ 0 → Stands i (owns i) c (entryOf x (lists now c g) c) (Done z o (answer (m .words z) o))
+      points-stands t none = (
+        record {
+          is = record { some = mine .some; mine = mine .mine; begun = mine .begun; going = mine .going; turns = mine .turns };
+          word = word;
+          what = what;
+        },
+        (rw (upd-same (g .point) c now) t, answered-last (g .call) (g .list) x c (unlisted (k .dated) c none) ∙ rw (k .word, what, word)),
+      )
+
+      pub point-keeps : 1 ≤ now → g .point c ≡ 0 → Kept x now owns (pointed i m (Begun z o)) (lists now c g)
+      point-keeps t none =
           record {
-            firsts = k .firsts;
-            points = late;
-            after = upd-all (g .point) c now (λ d y. 1 ≤ y → (1 ≤ g .first d) × (g .first d ≤ y)) (λ h. (mine .begun, k .firsts c)) (λ d ne. k .after d);
-            before =
-                upd-all (g .point) c now (λ d y. 1 ≤ g .last d → (1 ≤ y) × (y ≤ g .last d)) (λ h. absurd (omega (arith, mine .going))) (λ d ne. k .before d);
-            listed =
-                upd-all (g .point) c now (λ d y. times d (g .list ++ (c ∷ [])) ≡ cond (eqb y 0) 0 1)
-                (times-more c c (g .list) ∙ rw (unlisted, eq-eqb c c refl, ne-eqb now 0 (λ e. omega arith)))
-                (λ d ne. times-more d c (g .list) ∙ rw (ne-eqb d c ne) (omega (arith, k .listed d)));
-            rising =
-                pairs-more (g .list) c
-                (λ d e p q h. rw (upd-other (g .point) c now d (listed d p), upd-other (g .point) c now e (listed e q)) h)
-                (λ d p. rw (upd-same (g .point) c now) (late d))
-                (k .rising);
+            dated = points-now (k .dated) c t (mine .begun) none;
             word =
                 served-more (g .call) (g .list) x c ∙ rw (k .word, what)
                 (sym (ap (λ z. upd (m .words) z (left (m .words z) o) 0) word ∙ upd-same (m .words) 0 (left (m .words 0) o)));
@@ -263,41 +199,22 @@ module _ {x now : ℕ} {owns : ℕ → ℕ} {m : Watcher} {g : Log} (k : Kept x 
                 λ d h.
                 rw (answered-other (g .call) (g .list) x c d (λ e. let l = ap (g .last) e ∙ mine .going in omega arith)) (k .answers d h);
             stands =
-                upd-all (m .phase) i (Done z o (answer (m .words z) o)) (λ j f. Stands j (owns j) (g .latest j) (entryOf x (lists now c g) (g .latest j)) f) (
-                  record {
-                    is = record { some = mine .some; mine = mine .mine; begun = mine .begun; going = mine .going; turns = mine .turns };
-                    word = word;
-                    what = what;
-                  },
-                  (rw (upd-same (g .point) c now) t, answered-last (g .call) (g .list) x c unlisted ∙ rw (k .word, what, word)),
-                )
+                upd-all (m .phase) i (Done z o (answer (m .words z) o)) (λ j f. Stands j (owns j) (g .latest j) (entryOf x (lists now c g) (g .latest j)) f)
+                (points-stands t none)
                 (λ j ne.
-                let d = g .latest j in
                 stays (m .phase j)
-                (λ h s.
-                record {
-                  station = g .station d;
-                  what = g .call d;
-                  first = g .first d;
-                  point = upd-other (g .point) c now d (apart j ne h) s;
-                  last = g .last d;
-                  own = g .own d;
-                  said = answered-other (g .call) (g .list) x c d (apart j ne h) s;
-                })
+                (λ h.
+                let off = apart j ne h in
+                same-entry refl refl refl (upd-other (g .point) c now (g .latest j) off) refl refl (answered-other (g .call) (g .list) x c (g .latest j) off))
                 (k .stands j));
           }
 
-      -- whatever its count is then
+      -- whatever its station's count is then
       pub end-keeps : (y result : ℕ) {owns′ : ℕ → ℕ} → ((j : ℕ) → (j ≡ i → ⊥) → owns′ j ≡ owns j) → 1 ≤ g .point c → answered x (g .call) (g .list) c ≡ y → Agrees o y result
           → Kept x now owns′ (putPhase i Free m) (ends now i result g)
       end-keeps y result {owns′} others some said agrees =
           record {
-            firsts = k .firsts;
-            points = k .points;
-            after = k .after;
-            before = upd-all (g .last) c now (λ d y. 1 ≤ y → (1 ≤ g .point d) × (g .point d ≤ y)) (λ h. (some, k .points c)) (λ d ne. k .before d);
-            listed = k .listed;
-            rising = k .rising;
+            dated = ends-now (k .dated) c some;
             word = k .word;
             answers =
                 upd-all (g .result) c result (λ d y. 1 ≤ upd (g .last) c now d → Agrees (g .call d) (answered x (g .call) (g .list) d) y)
@@ -306,18 +223,6 @@ module _ {x now : ℕ} {owns : ℕ → ℕ} {m : Watcher} {g : Log} (k : Kept x 
             stands =
                 upd-all (m .phase) i Free (λ j f. Stands j (owns′ j) (g .latest j) (entryOf x (ends now i result g) (g .latest j)) f) tt
                 (λ j ne.
-                let d = g .latest j in
-                subst⁻¹ (λ (n : ℕ). Stands j n d (entryOf x (ends now i result g) d) (m .phase j)) (others j ne)
-                (stays (m .phase j)
-                (λ h s.
-                record {
-                  station = g .station d;
-                  what = g .call d;
-                  first = g .first d;
-                  point = g .point d;
-                  last = upd-other (g .last) c now d (apart j ne h) s;
-                  own = g .own d;
-                  said = answered x (g .call) (g .list) d;
-                })
-                (k .stands j)));
+                subst⁻¹ (λ (n : ℕ). Stands j n (g .latest j) (entryOf x (ends now i result g) (g .latest j)) (m .phase j)) (others j ne)
+                (stays (m .phase j) (λ h. same-entry refl refl refl refl (upd-other (g .last) c now (g .latest j) (apart j ne h)) refl refl) (k .stands j)));
           }

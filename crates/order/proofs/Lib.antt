@@ -1,5 +1,6 @@
 pub mod Bridge
 pub mod Lists
+pub mod Dated
 pub mod Kept
 pub mod Events
 pub mod Owns

@@ -29,7 +29,7 @@ use Rattle.bench.proofs.Own.{own-turns}
 use Rattle.order.specs.Log.{Log, noCalls, begins, pointsIn, acts, logged}
 use Rattle.order.specs.Accepted.{times, Pairs, served}
 use Rattle.order.proofs.Bridge.{only, view, Shape, eventsIn, follows, begins-fresh}
-use Rattle.order.proofs.Kept.{in-call, Kept, Unbegun, unbegun-goes, later, recount}
+use Rattle.order.proofs.Kept.{in-call, Kept, Unbegun, no-end-yet, keeps-on, recount}
 use Rattle.order.proofs.Events.{through-begin, through-points, through-end}
 use Rattle.order.proofs.Owns.{Took, Owns, going, ended}
 use Rattle.order.proofs.Same.{enter-all, opening}
@@ -79,7 +79,7 @@ module _ {x now : ℕ} (t : 1 ≤ now) {owns : ℕ → ℕ} {m : Watcher} {g : L
         → let b = cond rests (begins now c i (call (u .kind) (u .a) (u .b)) g) g in
         (b .last (b .latest i) ≡ 0) × ((b .own (b .latest i) ≡ owns i) × Owns (b .own) (b .last))
     begun-owns h true free busy =
-        let l = unbegun-goes k c (free refl .0) in
+        let l = no-end-yet k c (free refl .0) in
         rw (upd-same (g .latest) i c) (l, (upd-same (g .own) c 0 ∙ sym (free refl .1), going h c 0 l (omega arith)))
     begun-owns h false free busy =
         let s = in-call (m .phase i) (busy refl) (k .stands i) in
@@ -134,7 +134,7 @@ pub turn-held : {x now : ℕ} {w : Bench} {g : Log} → Held x now w g → (c : 
 unfolding after
 turn-held {x} {now} {w} {g} h c u free =
     let y = turnBy w u .answer in
-    let k = later (h .kept) (now + 1) (omega arith) in
+    let k = keeps-on (h .kept) (now + 1) (omega arith) in
     let f = follows (h .shape) (h .inv) u in
     let r = rest h u in
     let own = own-turn h u in
@@ -156,7 +156,7 @@ pub turn-had : {x now : ℕ} {w : Bench} {g : Log} → Held x now w g → (c : �
     b .own (b .latest (u .station)) ≡ stationAt w (u .station) .own
 turn-had {x} {now} {w} {g} h c u free =
     let r = rest h u in
-    begun-owns (omega arith) (later (h .kept) (now + 1) (omega arith)) w c u (r .0) (r .1) (h .owns) (eqb (num (stationAt w (u .station) .place)) 0)
+    begun-owns (omega arith) (keeps-on (h .kept) (now + 1) (omega arith)) w c u (r .0) (r .1) (h .owns) (eqb (num (stationAt w (u .station) .place)) 0)
     (λ e. (free e, r .0 e)) (r .1) .1 .0
 
 -- a fresh bench, and no calls
@@ -171,12 +171,15 @@ fresh-held x n low high =
       inv = begins-fresh x n;
       kept =
           record {
-            firsts = λ c. omega arith;
-            points = λ c. omega arith;
-            after = λ c h. absurd (omega arith);
-            before = λ c h. absurd (omega arith);
-            listed = λ c. refl;
-            rising = tt;
+            dated =
+                record {
+                  firsts = λ c. omega arith;
+                  points = λ c. omega arith;
+                  after = λ c h. absurd (omega arith);
+                  before = λ c h. absurd (omega arith);
+                  listed = λ c. refl;
+                  rising = tt;
+                };
             word = refl;
             answers = λ c h. absurd (omega arith);
             stands = λ i. tt;
