@@ -1,5 +1,5 @@
 -- The book that is kept of a file's run says what the log knows, turn by turn. Assumes nothing.
-use mathlib.Core.Path.{_≡_, refl, _∙_, sym, ap, subst}
+use mathlib.Core.Path.{_≡_, refl, _∙_, sym, ap}
 use mathlib.Core.Bool.{Bool, true, false, cond, not, _&&_}
 use mathlib.Core.List.{List, [], _∷_}
 use Prim.Native.Nat.{ℕ, _+_, _≤_, _<_}
@@ -7,7 +7,7 @@ use native.Mathlib.Omega.{arith}
 use borrow.Author.Tests.{ne-eqb}
 use lib.Dec.{eqb}
 use lib.ListN.{length, getD, set, length-set}
-use lib.Seq.{getD-set-same, getD-set-other}
+use lib.Seq.{getD-set-same, getD-set-other, set-set}
 use Rattle.rules.proofs.Facts.{either-way}
 use Rattle.method.specs.declared.Call.{Call}
 use Rattle.method.specs.declared.Answer.{Answer}
@@ -28,143 +28,109 @@ use Rattle.run.proofs.Books as Rows
 use Rattle.order.specs.Log.{Log, enters, allEnter, ends, acts, pointsIn, logged}
 use Rattle.order.proofs.Same.{opening, enter-all}
 
--- a row that is written where a function is
-pub row-written : (l : List ℕ) (f : ℕ → ℕ) (j x : ℕ) → j < length l → ((i : ℕ) → getD l i 0 ≡ f i) → (i : ℕ) → getD (set l j x) i 0 ≡ upd f j x i
-row-written l f j x h e =
-    upd-all f j x (λ i y. getD (set l j x) i 0 ≡ y) (getD-set-same l j x 0 h) (λ i ne. getD-set-other l j i x 0 ne ∙ e i)
+-- a row of a book that holds a function of the log
+pub record Row (n : ℕ) (l : List ℕ) (f : ℕ → ℕ) : Type 0 where
+  pub long : length l ≡ n
+  pub reads : (i : ℕ) → getD l i 0 ≡ f i
+
+-- written in both where y is
+written : {n : ℕ} {l : List ℕ} {f : ℕ → ℕ} (j x y : ℕ) → Row n l f → j < n → x ≡ y → Row n (set l j x) (upd f j y)
+written {n} {l} {f} j x y r h e =
+    record {
+      long = length-set l j x ∙ r .long;
+      reads =
+          upd-all f j y (λ i y. getD (set l j x) i 0 ≡ y) (getD-set-same l j x 0 (omega (arith, r .long)) ∙ e)
+          (λ i ne. getD-set-other l j i x 0 ne ∙ r .reads i);
+    }
 
 pub record Matches (b : Book) (g : Log) : Type 0 where
-  pub latests : length (b .latest) ≡ 33
-  pub owns : length (b .own) ≡ 1025
-  pub tolds : length (b .told) ≡ 1025
-  pub points : length (b .point) ≡ 1025
+  pub latest : Row 33 (b .latest) (g .latest)
   pub within : (j : ℕ) → g .latest j < 1025
-  pub latest : (j : ℕ) → getD (b .latest) j 0 ≡ g .latest j
-  pub own : (c : ℕ) → getD (b .own) c 0 ≡ g .own c
-  pub told : (c : ℕ) → getD (b .told) c 0 ≡ cond (eqb (g .last c) 0) 0 (g .result c + 1)
-  pub point : (c : ℕ) → getD (b .point) c 0 ≡ g .point c
+  pub own : Row 1025 (b .own) (g .own)
+  pub told : Row 1025 (b .told) (λ c. cond (eqb (g .last c) 0) 0 (g .result c + 1))
+  pub point : Row 1025 (b .point) (g .point)
   pub list : b .list ≡ g .list
 
-module _ {b : Book} {g : Log} (m : Matches b g) (now : ℕ) where
-  enters-matches : (j : ℕ) → Matches (Book.enters now j b) (enters now j g)
+module _ {b : Book} {g : Log} (m : Matches b g) where
+  enters-matches : (now j : ℕ) → Matches (Book.enters now j b) (enters now j g)
   unfolding enterCall
-  enters-matches j =
+  enters-matches now j =
       let c = g .latest j in
+      let is = m .latest .reads j in
       let test : (not (eqb (getD (b .latest) j 0) 0) && eqb (getD (b .point) (getD (b .latest) j 0) 0) 0) ≡ (not (eqb c 0) && eqb (g .point c) 0) =
-      rw (m .latest j, m .point c) in
+      rw (is, m .point .reads c) in
       either-way (not (eqb c 0) && eqb (g .point c) 0)
       (λ e.
       rw (test ∙ e, e)
       (record {
-        latests = m .latests;
-        owns = m .owns;
-        tolds = m .tolds;
-        points = length-set (b .point) (getD (b .latest) j 0) now ∙ m .points;
-        within = m .within;
         latest = m .latest;
+        within = m .within;
         own = m .own;
         told = m .told;
-        point = rw (m .latest j) (row-written (b .point) (g .point) c now (omega (arith, m .within j, m .points)) (m .point));
-        list = rw (m .latest j, m .list);
+        point = rw is (written c now now (m .point) (m .within j) refl);
+        list = rw (is, m .list);
       }))
-      (λ e.
-      rw (test ∙ e, e)
-      (record {
-        latests = m .latests;
-        owns = m .owns;
-        tolds = m .tolds;
-        points = m .points;
-        within = m .within;
-        latest = m .latest;
-        own = m .own;
-        told = m .told;
-        point = m .point;
-        list = m .list;
-      }))
+      (λ e. rw (test ∙ e, e) (record { latest = m .latest; within = m .within; own = m .own; told = m .told; point = m .point; list = m .list }))
 
-pub all-enter-matches : {b : Book} {g : Log} (now : ℕ) (js : List ℕ) → Matches b g → Matches (Book.allEnter now js b) (allEnter now js g)
-unfolding Book.allEnter allEnter
-all-enter-matches now [] m = m
-all-enter-matches now (j ∷ js) m = all-enter-matches now js (enters-matches m now j)
-
-module _ {b : Book} {g : Log} (m : Matches b g) (now i e : ℕ) (o : Call) where
-  -- the call that an operation is for is its station's latest then
-  pub call-is : (rests : Bool) → cond rests e (getD (b .latest) i 0) ≡ opening rests now e i o g .latest i
-  call-is true = sym (upd-same (g .latest) i e)
-  call-is false = m .latest i
-
-  acts-matches : (rests : Bool) (d n : ℕ) → i < 33 → e < 1025
-      → n ≡ opening rests now e i o g .own (opening rests now e i o g .latest i) + 1
-      → Matches (Book.acts rests i (cond rests e (getD (b .latest) i 0)) d n b) (acts rests now e i o g)
-  acts-matches true d n inside small q =
-      let h = upd-same (g .latest) i e in
-      record {
-        latests = length-set (b .latest) i e ∙ m .latests;
-        owns = length-set (b .own) e n ∙ m .owns;
-        tolds = m .tolds;
-        points = m .points;
-        within = upd-all (g .latest) i e (λ j c. c < 1025) small (λ j ne. m .within j);
-        latest = row-written (b .latest) (g .latest) i e (omega (arith, m .latests)) (m .latest);
-        own =
-            subst (λ c. (a : ℕ) → getD (set (b .own) e n) a 0 ≡ upd (upd (g .own) e 0) c (upd (g .own) e 0 c + 1) a) (sym h)
-            (upd-all (upd (g .own) e 0) e (upd (g .own) e 0 e + 1) (λ a y. getD (set (b .own) e n) a 0 ≡ y)
-            (getD-set-same (b .own) e n 0 (omega (arith, m .owns)) ∙ q ∙ ap (λ c. upd (g .own) e 0 c + 1) h)
-            (λ a ne. getD-set-other (b .own) e a n 0 ne ∙ m .own a ∙ sym (upd-other (g .own) e 0 a ne)));
-        told = m .told;
-        point = m .point;
-        list = m .list;
-      }
-  acts-matches false d n inside small q =
-      let c = g .latest i in
-      record {
-        latests = m .latests;
-        owns = length-set (b .own) (getD (b .latest) i 0) n ∙ m .owns;
-        tolds = m .tolds;
-        points = m .points;
-        within = m .within;
-        latest = m .latest;
-        own = rw (m .latest i, q) (row-written (b .own) (g .own) c (g .own c + 1) (omega (arith, m .within i, m .owns)) (m .own));
-        told = m .told;
-        point = m .point;
-        list = m .list;
-      }
-
-module _ {b : Book} {g : Log} (m : Matches b g) where
   ends-matches : (now i c result : ℕ) → 1 ≤ now → c ≡ g .latest i → Matches (Book.ends c result b) (ends now i result g)
   ends-matches now i c result t e =
+      let l = g .latest i in
+      let w = written c (result + 1) (result + 1) (m .told) (omega (arith, e, m .within i)) refl in
       record {
-        latests = m .latests;
-        owns = m .owns;
-        tolds = length-set (b .told) c (result + 1) ∙ m .tolds;
-        points = m .points;
-        within = m .within;
         latest = m .latest;
+        within = m .within;
         own = m .own;
         told =
-            rw e
-            (upd-all (g .last) (g .latest i) now
-            (λ d l. getD (set (b .told) (g .latest i) (result + 1)) d 0 ≡ cond (eqb l 0) 0 (upd (g .result) (g .latest i) result d + 1))
-            (getD-set-same (b .told) (g .latest i) (result + 1) 0 (omega (arith, m .within i, m .tolds))
-            ∙ rw (ne-eqb now 0 (λ q. omega arith), upd-same (g .result) (g .latest i) result))
-            (λ d ne. getD-set-other (b .told) (g .latest i) d (result + 1) 0 ne ∙ m .told d ∙ rw (upd-other (g .result) (g .latest i) result d ne)));
+            record {
+              long = w .long;
+              reads =
+                  λ d.
+                  w .reads d ∙ rw e
+                  (upd-all (g .last) l now (λ d f. upd (λ c. cond (eqb (g .last c) 0) 0 (g .result c + 1)) l (result + 1) d ≡ cond (eqb f 0) 0 (upd (g .result) l result d + 1))
+                  (upd-same _ l (result + 1) ∙ rw (ne-eqb now 0 (λ q. omega arith), upd-same (g .result) l result))
+                  (λ d ne. upd-other _ l (result + 1) d ne ∙ rw (upd-other (g .result) l result d ne)) d);
+            };
         point = m .point;
         list = m .list;
       }
 
   idles-matches : Matches (Book.idles b) g
-  idles-matches =
-      record {
-        latests = m .latests;
-        owns = m .owns;
-        tolds = m .tolds;
-        points = m .points;
-        within = m .within;
-        latest = m .latest;
-        own = m .own;
-        told = m .told;
-        point = m .point;
-        list = m .list;
-      }
+  idles-matches = record { latest = m .latest; within = m .within; own = m .own; told = m .told; point = m .point; list = m .list }
+
+  -- an operation of station i, for call e on offer or its latest one
+  module _ (now i e : ℕ) (o : Call) where
+    -- the call that it is for is the station's latest then
+    call-is : (rests : Bool) → cond rests e (getD (b .latest) i 0) ≡ opening rests now e i o g .latest i
+    call-is true = sym (upd-same (g .latest) i e)
+    call-is false = m .latest .reads i
+
+    acts-matches : (rests : Bool) (d n : ℕ) → i < 33 → e < 1025 → n ≡ opening rests now e i o g .own (opening rests now e i o g .latest i) + 1
+        → Matches (Book.acts rests i (cond rests e (getD (b .latest) i 0)) d n b) (acts rests now e i o g)
+    acts-matches true d n inside small q =
+        let h = upd-same (g .latest) i e in
+        record {
+          latest = written i e e (m .latest) inside refl;
+          within = upd-all (g .latest) i e (λ j c. c < 1025) small (λ j ne. m .within j);
+          own =
+              rw (h, ← set-set (b .own) e 0 n) (written e n (upd (g .own) e 0 e + 1) (written e 0 0 (m .own) small refl) small (rw h at q));
+          told = m .told;
+          point = m .point;
+          list = m .list;
+        }
+    acts-matches false d n inside small q =
+        record {
+          latest = m .latest;
+          within = m .within;
+          own = rw (m .latest .reads i) (written (g .latest i) n (g .own (g .latest i) + 1) (m .own) (m .within i) q);
+          told = m .told;
+          point = m .point;
+          list = m .list;
+        }
+
+pub all-enter-matches : {b : Book} {g : Log} (now : ℕ) (js : List ℕ) → Matches b g → Matches (Book.allEnter now js b) (allEnter now js g)
+unfolding Book.allEnter allEnter
+all-enter-matches now [] m = m
+all-enter-matches now (j ∷ js) m = all-enter-matches now js (enters-matches m now j)
 
 -- one turn for call e on offer: `own` is what a call that goes on has had then
 module _ {b : Book} {g : Log} (m : Matches b g) (table : List ℕ) (w : Bench) (now e own : ℕ) (u : Turn) (t : 1 ≤ now) (small : e < 1025) where

@@ -125,15 +125,11 @@ filed-start x n table low high =
       size = refl;
       matches =
           record {
-            latests = refl;
-            owns = refl;
-            tolds = refl;
-            points = refl;
+            latest = record { long = refl; reads = everywhere 0 33 };
             within = λ j. omega arith;
-            latest = everywhere 0 33;
-            own = everywhere 0 1025;
-            told = everywhere 0 1025;
-            point = everywhere 0 1025;
+            own = record { long = refl; reads = everywhere 0 1025 };
+            told = record { long = refl; reads = everywhere 0 1025 };
+            point = record { long = refl; reads = everywhere 0 1025 };
             list = refl;
           };
       plan =
@@ -159,5 +155,5 @@ every-file file well =
     record {
       demand = subst⁻¹ (λ l. Demand3 x (runOfFile file .bench .v .second) (logOfFile file) l) (f .matches .list) (demand (f .held));
       calls = f .plan .calls;
-      booked = λ c. record { own = f .matches .own c; told = f .matches .told c; point = f .matches .point c };
+      booked = λ c. record { own = f .matches .own .reads c; told = f .matches .told .reads c; point = f .matches .point .reads c };
     }
