@@ -2,6 +2,8 @@
 // They rest on the rooms' own proofs and assume nothing.
 ghost use Rattle.card.specs.Promise.{Card};
 ghost use Rattle.bench.specs.Promise.{RefusesExactly, KeptSound, OwnTurnsCount};
+ghost use Rattle.order.specs.Demand.{EveryRun};
+ghost use Rattle.order.specs.Files.{EveryFile};
 ghost use Rattle.promises.specs.Runs.{RunsToCheck};
 ghost use Rattle.promises.specs.Unique.{OneResult};
 
@@ -28,6 +30,16 @@ pub fn turns_keep_a_bench_sound()
 // Demand 3's first sentence: own turns are the table's operations done, 1, 8 or 10 of them, and a call has ended by the tenth.
 pub fn own_turns_are_operations()
     ensures { λ r. ⌜ OwnTurnsCount ⌝ }
+{}
+
+// Demand 3: every run from a fresh bench, with any turns and offers, behaves as one word served one call at a time.
+pub fn every_run_is_one_word()
+    ensures { λ r. ⌜ EveryRun ⌝ }
+{}
+
+// The same for every file that reads well, with its call numbers and the very list that the report prints.
+pub fn every_file_is_one_word()
+    ensures { λ r. ⌜ EveryFile ⌝ }
 {}
 
 // Two results that a public function's contract allows for one input are equal.

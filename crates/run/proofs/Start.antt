@@ -36,12 +36,12 @@ all-zero (suc k) zero = refl
 all-zero (suc k) (suc i) = all-zero k i
 
 -- the row of first calls
-how-many : (table : List ℕ) (k : ℕ) → length (firstCalls table k) ≡ k
+pub how-many : (table : List ℕ) (k : ℕ) → length (firstCalls table k) ≡ k
 unfolding firstCalls
 how-many table zero = refl
 how-many table (suc k) = length-append (firstCalls table k) _ ∙ omega (arith, how-many table k)
 
-first-call : (table : List ℕ) (k i : ℕ) → i < k → getD (firstCalls table k) i 0 ≡ callAfter table i 0
+pub first-call : (table : List ℕ) (k i : ℕ) → i < k → getD (firstCalls table k) i 0 ≡ callAfter table i 0
 unfolding firstCalls
 first-call table zero i h = absurd (omega arith)
 first-call table (suc k) i h =
@@ -53,7 +53,7 @@ first-call table (suc k) i h =
     ]
 
 -- a fresh bench of n stations
-fresh-bench : (x n : ℕ) → 1 ≤ n → n ≤ 32 → freshOf x n ≡ record { refused = 0; bench = blank x n }
+pub fresh-bench : (x n : ℕ) → 1 ≤ n → n ≤ 32 → freshOf x n ≡ record { refused = 0; bench = blank x n }
 unfolding freshOf
 fresh-bench x n some few = rw (ne-eqb n 0 (λ q. omega arith), le-ltb 32 n few) refl
 

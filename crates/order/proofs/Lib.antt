@@ -1,0 +1,12 @@
+pub mod Bridge
+pub mod Lists
+pub mod Dated
+pub mod Kept
+pub mod Events
+pub mod Owns
+pub mod Same
+pub mod Turns
+pub mod Demands
+pub mod Books
+pub mod Plans
+pub mod Files

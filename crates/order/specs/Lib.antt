@@ -1,0 +1,4 @@
+pub mod Log
+pub mod Accepted
+pub mod Demand
+pub mod Files
