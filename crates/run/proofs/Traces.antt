@@ -11,6 +11,8 @@ use lib.Seq.{length-take-le}
 use Rattle.rules.proofs.Facts.{and-left, and-right}
 use Rattle.runfile.specs.declared.ReadAnswer.{ReadAnswer}
 use Rattle.runfile.specs.Reading.{readOf, turnsOf}
+use Rattle.runfile.proofs.Answers.{inside}
+use Rattle.runfile.proofs.Trailers.{length-part}
 use Rattle.run.specs.declared.Trace.{Trace}
 use Rattle.run.specs.declared.Drove.{Drove}
 use Rattle.run.specs.Drive.{runOfFile, Blank, Ran}
@@ -65,6 +67,10 @@ module _ (file own told point list : List ℕ) (d : Drove) (ran : Ran file d own
         points = ran .points;
         lists = left ∙ in-row;
       }
+
+-- the number of turns that was read
+pub turns-counted : (file : List ℕ) (a : ReadAnswer) → a ≡ readOf file → a .t ≡ length (turnsOf file)
+turns-counted file a e = ap (λ r. r .t) e ∙ sym (length-part file (readOf file .middle) (readOf file .t) (inside file .turns))
 
 -- zero rows fit
 pub blank-fits : {next head latest wait own told point list : List ℕ} → Blank next head latest wait own told point list → fit own told point list ≡ true

@@ -1,11 +1,32 @@
-// The run of a file that reads well, in lent rows. It assumes that all rows are zero.
+// The run of a file that reads well, in lent rows. It assumes that all rows are zero, and that the file was read once, since that takes a look at each turn.
 ghost use mathlib.Core.Path.{_≡_};
-ghost use Rattle.runfile.specs.Reading.{readOf};
+ghost use Rattle.runfile.specs.Reading.{readOf, tableOf, turnsOf};
 ghost use Rattle.run.specs.Drive.{Blank, Ran};
 use crate::Drove;
 use crate::calls::link;
 use crate::drive::drive;
 use bench::Bench;
+use runfile::ReadAnswer;
+
+// The call table of a file that was read as a.
+fn table_of(file: &[u8], a: ReadAnswer) -> &[u8]
+    requires { ⌜ a ≡ readOf (now file) ⌝ }
+    ensures { λ r. ⌜ now r ≡ tableOf (now (file .entry)) ⌝ }
+{
+    let s = a.start;
+    let e = s + 12 * a.q;
+    &file[s..e]
+}
+
+// Its turns: a part that starts in the file's middle.
+fn turns_of(file: &[u8], a: ReadAnswer) -> &[u8]
+    requires { ⌜ a ≡ readOf (now file) ⌝ }
+    ensures { λ r. ⌜ now r ≡ turnsOf (now (file .entry)) ⌝ }
+{
+    let s = a.middle;
+    let e = s + a.t;
+    &file[s..e]
+}
 
 pub(crate) fn ran(
     file: &[u8],
@@ -17,13 +38,13 @@ pub(crate) fn ran(
     told: &mut [u64],
     point: &mut [u32],
     list: &mut [u32],
+    a: ReadAnswer,
 ) -> Drove
-    requires { ⌜ (readOf (now file) .refused ≡ 0) × Blank (now next) (now head) (now latest) (now wait) (now own) (now told) (now point) (now list) ⌝ }
+    requires { ⌜ (readOf (now file) .refused ≡ 0) × (Blank (now next) (now head) (now latest) (now wait) (now own) (now told) (now point) (now list) × (a ≡ readOf (now file))) ⌝ }
     ensures { λ r. ⌜ Ran (now (file .entry)) r (now (own .exit)) (now (told .exit)) (now (point .exit)) (now (list .exit)) ⌝ }
 {
-    let a = runfile::read(file);
-    let table = runfile::table(file);
-    let turns = runfile::turns(file);
+    let table = table_of(file, a);
+    let turns = turns_of(file, a);
     let made = Bench::fresh(a.x, a.n);
     let w = made.bench;
     link(table, next, head);

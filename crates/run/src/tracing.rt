@@ -8,6 +8,7 @@ use crate::Trace;
 use crate::ran::ran;
 use crate::rows::clear;
 use crate::rows::clear_wide;
+use runfile::ReadAnswer;
 
 fn no_trace(refused: u32, k: usize) -> Trace
     ensures { λ r. ⌜ r ≡ noTrace refused k ⌝ }
@@ -36,12 +37,12 @@ fn traced_by(
     told: &mut [u64],
     point: &mut [u32],
     list: &mut [u32],
+    a: ReadAnswer,
 ) -> Trace
-    requires { ⌜ (readOf (now file) .refused ≡ 0) × Blank (now next) (now head) (now latest) (now wait) (now own) (now told) (now point) (now list) ⌝ }
+    requires { ⌜ (readOf (now file) .refused ≡ 0) × (Blank (now next) (now head) (now latest) (now wait) (now own) (now told) (now point) (now list) × (a ≡ readOf (now file))) ⌝ }
     ensures { λ r. ⌜ TracedTo (now (file .entry)) (now (own .entry)) (now (told .entry)) (now (point .entry)) (now (list .entry)) r (now (own .exit)) (now (told .exit)) (now (point .exit)) (now (list .exit)) ⌝ }
 {
-    let turns = runfile::turns(file);
-    let d = ran(file, next, head, latest, wait, own, told, point, list);
+    let d = ran(file, next, head, latest, wait, own, told, point, list, a);
     let s = d.tally;
     let w = d.bench;
     let v = w.v;
@@ -49,7 +50,7 @@ fn traced_by(
     Trace {
         refused: 0,
         k: 0,
-        turns: turns.len() as u32,
+        turns: a.t as u32,
         idle: s.idle,
         begun: s.begun,
         ended: s.ended,
@@ -95,5 +96,6 @@ pub fn traced(
         told,
         point,
         list,
+        r,
     )
 }

@@ -11,34 +11,33 @@ use Rattle.run.proofs.ran.ran.Statement.{statement}
 use Rattle.run.proofs.ran.ran.Tie as tie
 
 abbrev entry : tie.After-link → tie.Start
-entry c = c .before .before .before .before .before .before .before .before .before .before .before .before .before .before .before .before .before
+entry c = c .before .before .before .before .before .before .before .before .before .before .before .before .before .before .before .before
 
 -- what was linked is the file's call table
 linked : (c : tie.After-link) → Linked (tableOf (entry c .args .file .now)) (c .link .last .1 .0) (c .link .last .1 .1 .0) 0
-linked c = rw (c .before .before .before .before .before .before .table .ensures) at (c .link .ensures)
+linked c = rw (c .before .before .before .before .before .before .table-of .ensures) at (c .link .ensures)
 
 made : (c : tie.After-link) → c .before .before .before .before .fresh .result .bench ≡ blank (readOf (entry c .args .file .now) .x) (readOf (entry c .args .file .now) .n)
 made c =
     let f = entry c .args .file .now in
     ap (λ m. m .bench)
-    (c .before .before .before .before .fresh .ensures ∙ ap (λ a. freshOf (a .x) (a .n)) (c .before .before .before .before .before .before .before .read .ensures) ∙ is-fresh f (entry c .pre .0) _ _ _ _ _ _ _ _ _ _ (entry c .pre .1) (c .link .kept .1 .0) (c .link .kept .1 .1 .0) (linked c))
+    (c .before .before .before .before .fresh .ensures ∙ ap (λ a. freshOf (a .x) (a .n)) (entry c .pre .1 .1) ∙ is-fresh f (entry c .pre .0) _ _ _ _ _ _ _ _ _ _ (entry c .pre .1 .0) (c .link .kept .1 .0) (c .link .kept .1 .1 .0) (linked c))
 
 pub ran-spec : {M : Type 1} → statement M
 ran-spec =
     tie.close
     (tie.spec
-    (λ c κs. search needs)
-    (λ c κs. search needs)
-    (λ c κs. search needs)
+    (λ c κs. c .before .before .before .before .before .before .before .before .before .pre .1 .1)
+    (λ c κs. c .before .before .before .before .before .before .before .before .before .before .pre .1 .1)
     (λ c κs. search needs)
     (λ c κs.
-    let s = c .before .before .before .before .before .before .before .before .before .before .before .before .before .before .before .before in
+    let s = c .before .before .before .before .before .before .before .before .before .before .before .before .before .before .before in
     let w = reads-well (s .args .file .now) (s .pre .0) in
-    (s .pre .1 .nexts, (s .pre .1 .heads, (rw (c .before .before .before .before .before .table .ensures) (w .good .calls), rw (c .before .before .before .before .before .table .ensures) (w .stations)))))
+    (s .pre .1 .0 .nexts, (s .pre .1 .0 .heads, (rw (c .before .before .before .before .before .table-of .ensures) (w .good .calls), rw (c .before .before .before .before .before .table-of .ensures) (w .stations)))))
     (λ c κs.
     let l = c .before .before .before .before .before .before .before .before .before .before .before .before in
     let s = entry l in
-    starts (s .args .file .now) (s .pre .0) _ _ _ _ _ _ _ _ _ _ (s .pre .1) (l .link .kept .1 .0) (l .link .kept .1 .1 .0) (linked l) _ _ _ (made l) (l .before .before .before .before .before .before .table .ensures) (l .before .before .before .before .before .turns .ensures))
+    starts (s .args .file .now) (s .pre .0) _ _ _ _ _ _ _ _ _ _ (s .pre .1 .0) (l .link .kept .1 .0) (l .link .kept .1 .1 .0) (linked l) _ _ _ (made l) (l .before .before .before .before .before .before .table-of .ensures) (l .before .before .before .before .before .turns-of .ensures))
     (λ c. c .before .before .before .before .before .before .before .before .before .before .before .before .before .before .before .before .before .before .before .before .before .before .before .before .before .before .before .link .kept .1 .0)
     (λ c. c .before .before .before .before .before .before .before .before .before .before .before .before .before .before .drive .kept .1 .1 .1 .1 .0 ∙ c .before .before .before .before .before .before .before .before .before .before .before .before .before .before .before .before .before .before .before .before .before .before .before .before .before .before .before .link .kept .1 .1 .0)
     (λ c. c .before .before .before .before .before .before .before .before .before .before .before .before .before .before .drive .kept .1 .1 .1 .1 .1 .0)
@@ -51,4 +50,4 @@ ran-spec =
     let d = c .before .before .before .before .before .before .before .before .before .before .before .before .before .before in
     let l = d .before .before .before .before .before .before .before .before .before .before .before .before .before in
     let s = entry l in
-    ran-through (s .args .file .now) (s .pre .0) _ _ _ _ _ _ _ _ _ _ (s .pre .1) (l .link .kept .1 .0) (l .link .kept .1 .1 .0) (linked l) _ _ _ (made l) (l .before .before .before .before .before .before .table .ensures) (l .before .before .before .before .before .turns .ensures) _ _ _ _ _ _ _ (d .drive .ensures .0) (d .drive .ensures .1)))
+    ran-through (s .args .file .now) (s .pre .0) _ _ _ _ _ _ _ _ _ _ (s .pre .1 .0) (l .link .kept .1 .0) (l .link .kept .1 .1 .0) (linked l) _ _ _ (made l) (l .before .before .before .before .before .before .table-of .ensures) (l .before .before .before .before .before .turns-of .ensures) _ _ _ _ _ _ _ (d .drive .ensures .0) (d .drive .ensures .1)))
