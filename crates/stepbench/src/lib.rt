@@ -24,8 +24,8 @@ pub extern "C" fn stepbench_report(file: &[u8], out: &mut [u8]) -> u64
     ensures { λ r. ⌜ r ≡ reportWord (now (file .entry)) (now (out .entry)) ⌝ }
     ensures { λ _. ⌜ now (out .exit) ≡ reportedOn (now (file .entry)) (now (out .entry)) ⌝ }
 {
-    let r = sheet::report(file, out);
-    word(r.refused, r.k, r.len)
+    let reported = sheet::report(file, out);
+    word(reported.refused, reported.k, reported.len)
 }
 
 // A run file as text.
@@ -34,8 +34,8 @@ pub extern "C" fn stepbench_print(file: &[u8], out: &mut [u8]) -> u64
     ensures { λ r. ⌜ r ≡ printWord (now (file .entry)) (now (out .entry)) ⌝ }
     ensures { λ _. ⌜ now (out .exit) ≡ printedOn (now (file .entry)) (now (out .entry)) ⌝ }
 {
-    let r = runtext::print(file, out);
-    word(r.refused, r.k, r.len)
+    let printed = runtext::print(file, out);
+    word(printed.refused, printed.k, printed.len)
 }
 
 // A text as a run file; the word has what was expected for its refusal, and the line for its K.
@@ -44,8 +44,8 @@ pub extern "C" fn stepbench_parse(text: &[u8], out: &mut [u8]) -> u64
     ensures { λ r. ⌜ r ≡ parseWord (now (text .entry)) (now (out .entry)) ⌝ }
     ensures { λ _. ⌜ now (out .exit) ≡ parsedOn (now (text .entry)) (now (out .entry)) ⌝ }
 {
-    let r = runtext::parse(text, out);
-    word(r.expected, r.line, r.len)
+    let parsed = runtext::parse(text, out);
+    word(parsed.expected, parsed.line, parsed.len)
 }
 
 // A run file of x, n, a call table and turns.
@@ -54,8 +54,8 @@ pub extern "C" fn stepbench_write(x: u32, n: u32, table: &[u8], turns: &[u8], ou
     ensures { λ r. ⌜ r ≡ writeWord n (now (table .entry)) (now (turns .entry)) (now (out .entry)) ⌝ }
     ensures { λ _. ⌜ now (out .exit) ≡ outOf x n (now (table .entry)) (now (turns .entry)) (now (out .entry)) ⌝ }
 {
-    let r = runfile::write(x, n, table, turns, out);
-    word(r.refused, r.k, r.len)
+    let written = runfile::write(x, n, table, turns, out);
+    word(written.refused, written.k, written.len)
 }
 
 // The four numbers of a run file; refused, they stay as they were.
@@ -73,15 +73,15 @@ pub extern "C" fn stepbench_read(
     ensures { λ _. ⌜ now (q .exit) ≡ qLeft (now (file .entry)) (now (q .entry)) ⌝ }
     ensures { λ _. ⌜ now (t .exit) ≡ tLeft (now (file .entry)) (now (t .entry)) ⌝ }
 {
-    let r = runfile::read(file);
-    let answer = word(r.refused, r.k, 0);
-    if r.refused != 0 {
+    let found = runfile::read(file);
+    let answer = word(found.refused, found.k, 0);
+    if found.refused != 0 {
         return answer;
     }
-    *x = r.x;
-    *n = r.n;
-    *q = r.q;
-    *t = r.t;
+    *x = found.x;
+    *n = found.n;
+    *q = found.q;
+    *t = found.t;
     answer
 }
 
