@@ -4,6 +4,7 @@ use mathlib.Core.List.{List}
 use Prim.Native.Nat.{ℕ}
 use lib.Dec.{eqb}
 use lib.ListN.{length}
+use Rattle.octets.specs.Bytes.{AllBytes}
 use Rattle.sheet.specs.declared.Reported.{Reported}
 use Rattle.sheet.specs.Report.{reportOf}
 use Rattle.runfile.specs.declared.WriteAnswer.{WriteAnswer}
@@ -13,7 +14,7 @@ use Rattle.runtext.specs.declared.Printed.{Printed}
 use Rattle.runtext.specs.declared.Parsed.{Parsed}
 use Rattle.runtext.specs.Text.{printOf}
 use Rattle.runtext.specs.Parse.{parseOf}
-use Rattle.stepbench.specs.Word.{wordOf}
+use Rattle.stepbench.specs.Word.{wordOf, Apart}
 
 abbrev pub reportedWord : Reported → ℕ
 reportedWord r = wordOf (r .refused) (r .k) (r .len)
@@ -59,3 +60,14 @@ qLeft file before = numberLeft file before (readOf file .q)
 
 abbrev pub tLeft : List ℕ → ℕ → ℕ
 tLeft file before = numberLeft file before (readOf file .t)
+
+-- of each answer: what was put into its word comes out of it
+abbrev pub Told : ℕ → ℕ → ℕ → Type 0
+Told n k len = Apart (wordOf n k len) n k len
+
+pub record AnswersComeApart : Type 0 where
+  pub report : (file : List ℕ) (room : ℕ) → AllBytes file → Told (reportOf file room .refused) (reportOf file room .k) (reportOf file room .len)
+  pub print : (file : List ℕ) (room : ℕ) → AllBytes file → Told (printOf file room .refused) (printOf file room .k) (printOf file room .len)
+  pub write : (n : ℕ) (table turns : List ℕ) (room : ℕ)
+      → Told (writeOf n table turns room .refused) (writeOf n table turns room .k) (writeOf n table turns room .len)
+  pub read : (file : List ℕ) → Told (readOf file .refused) (readOf file .k) 0

@@ -6,7 +6,7 @@ ghost use Rattle.runfile.specs.Writing.{outOf};
 ghost use Rattle.runtext.specs.Text.{printedOn};
 ghost use Rattle.runtext.specs.Parse.{parsedOn};
 ghost use Rattle.stepbench.specs.Word.{wordOf, WordsComeApart};
-ghost use Rattle.stepbench.specs.Answer.{reportWord, printWord, parseWord, writeWord, readWord, xLeft, nLeft, qLeft, tLeft};
+ghost use Rattle.stepbench.specs.Answer.{reportWord, printWord, parseWord, writeWord, readWord, xLeft, nLeft, qLeft, tLeft, AnswersComeApart};
 
 // A refusal, its K and a length in one word.
 fn word(refused: u32, k: usize, len: usize) -> u64
@@ -88,4 +88,9 @@ pub extern "C" fn stepbench_read(
 // What was put into a word comes out of it again.
 pub fn words_come_apart()
     ensures { λ r. ⌜ WordsComeApart ⌝ }
+{}
+
+// All that these functions answer fits into a word; a text of more than 16,777,215 lines may be refused at one whose number does not.
+pub fn answers_come_apart()
+    ensures { λ r. ⌜ AnswersComeApart ⌝ }
 {}
