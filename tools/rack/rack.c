@@ -73,15 +73,17 @@ static bool load(const char *folder, int number, const char *end, struct file *f
 
 typedef uint64_t turned(const uint8_t *from, size_t from_len, uint8_t *out, size_t out_len);
 
-/* The answer in a buffer of `room` bytes is this word, and the buffer then holds these bytes and no others. */
+/* The answer in a buffer of `room` bytes is this word, and the buffer then holds these bytes and no others. What is given
+ * stands among guards too, in a block of just its length, and stays as it was. */
 static bool gives(turned *function, const struct file *from, size_t room, uint64_t word, const uint8_t *bytes) {
-    struct lent l = lend(room);
-    struct file copy = *from;
-    uint64_t answer = function(from->bytes, from->length, l.bytes, room);
+    struct lent l = lend(room), given = lend(from->length);
+    memcpy(given.bytes, from->bytes, from->length);
+    uint64_t answer = function(given.bytes, from->length, l.bytes, room);
     size_t length = STEPBENCH_LENGTH(word);
     bool same = answer == word && only(&l, length) && (length == 0 || memcmp(l.bytes, bytes, length) == 0) &&
-                memcmp(copy.bytes, from->bytes, sizeof copy.bytes) == 0;
+                only(&given, from->length) && memcmp(given.bytes, from->bytes, from->length) == 0;
     free(l.whole);
+    free(given.whole);
     return same;
 }
 
