@@ -5,7 +5,7 @@ use crate::report::ENOUGH;
 use crate::runfile::Refusal;
 
 extern "C" {
-    fn stepbench_report(file: *const u8, file_len: usize, out: *mut u8, out_len: usize) -> u64;
+    pub fn stepbench_report(file: *const u8, file_len: usize, out: *mut u8, out_len: usize) -> u64;
 }
 
 const GUARD: usize = 64;

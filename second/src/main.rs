@@ -19,6 +19,8 @@ mod report;
 mod run;
 mod runfile;
 mod search;
+#[cfg(feature = "library")]
+mod speed;
 #[cfg(test)]
 mod tests;
 mod text;
@@ -37,6 +39,7 @@ const HELP: &str = "usage: second report < FILE      the report of a run file
                                  sweep (file SEED of the cuts and changes), text or slip
        second compare [RUNS [DAMAGED]]   against the bench's programs
        second faults [RUNS]      the planted faults
+       second speed [ROUNDS] < FILE      both reports of a file, timed; wants the library
 ";
 
 fn main() -> ExitCode {
@@ -59,6 +62,11 @@ fn main() -> ExitCode {
             say(text.as_bytes());
             ExitCode::from(u8::from(!all_caught))
         }
+        #[cfg(feature = "library")]
+        (["speed"] | ["speed", _], Some(rounds), _) => match speed::speed(&input(), rounds as usize) {
+            Ok(line) => say((line + "\n").as_bytes()),
+            Err(told) => complain(&(told + "\n")),
+        },
         _ => complain(HELP),
     }
 }
