@@ -18,12 +18,13 @@ use Rattle.run.specs.declared.Drove.{Drove}
 use Rattle.run.specs.Drive.{runOfFile, Blank, Ran}
 use Rattle.run.specs.Trace.{places, cleared, padded, fit, noTrace, traceBy, traceOf, TracedTo}
 
--- the numbers that a run of so many turns leaves
-abbrev pub drawn : Drove → ℕ → Trace
-drawn d turns =
+-- the numbers that a run of so many calls and turns leaves
+abbrev pub drawn : Drove → ℕ → ℕ → Trace
+drawn d calls turns =
     record {
       refused = 0;
       k = 0;
+      calls = calls;
       turns = turns;
       idle = d .tally .idle;
       begun = d .tally .begun;
@@ -37,11 +38,12 @@ module _ (file own told point list : List ℕ) (d : Drove) (ran : Ran file d own
   listed : d .tally .listed ≡ length (runOfFile file .book .list)
   listed = sym (ap length (sym (ran .lists)) ∙ length-take-le (d .tally .listed) list (omega (arith, ran .room)))
 
-  numbers : (turns : ℕ) → turns ≡ length (turnsOf file) → drawn d turns ≡ traceBy (runOfFile file)
-  numbers turns e =
+  numbers : (calls turns : ℕ) → calls ≡ readOf file .q → turns ≡ length (turnsOf file) → drawn d calls turns ≡ traceBy (readOf file .q) (runOfFile file)
+  numbers calls turns h e =
       λ i. record {
         refused = 0;
         k = 0;
+        calls = h i;
         turns = (e ∙ ran .turns) i;
         idle = ran .idle i;
         begun = ran .begun i;
@@ -55,13 +57,13 @@ module _ (file own told point list : List ℕ) (d : Drove) (ran : Ran file d own
   in-row = rw (long, ran .lists) (ap (λ k. runOfFile file .book .list ++ replicate (places - k) 0) listed)
 
   -- from rows that fit
-  pub whole : (own₀ told₀ point₀ list₀ list′ : List ℕ) (turns : ℕ) → readOf file .refused ≡ 0 → fit own₀ told₀ point₀ list₀ ≡ true
-      → turns ≡ length (turnsOf file) → list′ ≡ cleared list (d .tally .listed)
-      → TracedTo file own₀ told₀ point₀ list₀ (drawn d turns) own told point list′
+  pub whole : (own₀ told₀ point₀ list₀ list′ : List ℕ) (calls turns : ℕ) → readOf file .refused ≡ 0 → fit own₀ told₀ point₀ list₀ ≡ true
+      → calls ≡ readOf file .q → turns ≡ length (turnsOf file) → list′ ≡ cleared list (d .tally .listed)
+      → TracedTo file own₀ told₀ point₀ list₀ (drawn d calls turns) own told point list′
   unfolding traceOf
-  whole own₀ told₀ point₀ list₀ list′ turns well fits e left =
+  whole own₀ told₀ point₀ list₀ list′ calls turns well fits h e left =
       record {
-        answered = rw (eq-eqb (readOf file .refused) 0 well, fits) (numbers turns e);
+        answered = rw (eq-eqb (readOf file .refused) 0 well, fits) (numbers calls turns h e);
         owns = ran .owns;
         tolds = ran .tolds;
         points = ran .points;

@@ -29,13 +29,15 @@ fit own told point list =
 
 -- a refused trace has zero in its other numbers
 abbrev pub noTrace : ℕ → ℕ → Trace
-noTrace refused k = record { refused = refused; k = k; turns = 0; idle = 0; begun = 0; ended = 0; listed = 0; val = 0; seq = 0 }
+noTrace refused k = record { refused = refused; k = k; calls = 0; turns = 0; idle = 0; begun = 0; ended = 0; listed = 0; val = 0; seq = 0 }
 
-abbrev pub traceBy : Run → Trace
-traceBy r =
+-- of a table of so many calls
+abbrev pub traceBy : ℕ → Run → Trace
+traceBy calls r =
     record {
       refused = 0;
       k = 0;
+      calls = calls;
       turns = r .turns;
       idle = r .book .idle;
       begun = r .book .begun;
@@ -47,7 +49,7 @@ traceBy r =
 
 -- the file's refusal with its K; then 14
 unfoldable pub traceOf : List ℕ → Bool → Trace
-traceOf file fits = cond (eqb (readOf file .refused) 0) (cond fits (traceBy (runOfFile file)) (noTrace 14 0)) (noTrace (readOf file .refused) (readOf file .k))
+traceOf file fits = cond (eqb (readOf file .refused) 0) (cond fits (traceBy (readOf file .q) (runOfFile file)) (noTrace 14 0)) (noTrace (readOf file .refused) (readOf file .k))
 
 -- a row that is lent becomes the run's; a refusal leaves it as it was
 abbrev pub lentRow : Trace → List ℕ → List ℕ → List ℕ

@@ -13,11 +13,12 @@ mod tracing;
 
 pub use tracing::traced;
 
-// The numbers of a run: its turns, idle turns, calls begun, ended and listed, and V at its end. Refused, all but refused and k
+// The numbers of a run: the calls of its table, its turns, idle turns, calls begun, ended and listed, and V at its end. Refused, all but refused and k
 // are zero.
 pub struct Trace {
     pub refused: u32,
     pub k: usize,
+    pub calls: usize,
     pub turns: u32,
     pub idle: u32,
     pub begun: u32,

@@ -16,6 +16,7 @@ fn no_trace(refused: u32, k: usize) -> Trace
     Trace {
         refused,
         k,
+        calls: 0,
         turns: 0,
         idle: 0,
         begun: 0,
@@ -50,6 +51,7 @@ fn traced_by(
     Trace {
         refused: 0,
         k: 0,
+        calls: a.q,
         turns: a.t as u32,
         idle: s.idle,
         begun: s.begun,

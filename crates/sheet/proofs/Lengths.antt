@@ -62,7 +62,7 @@ length-line l s =
     let h7 = length-decimal (l .point) 5 (omega (arith, s .point)) (omega arith) in
     simp length-append (omega (arith, rw length-append at h1, rw length-append at h2, rw length-append at h3, h4, h5, rw length-append at h6, h7))
 
-module _ (table : List ℕ) (r : Run) (small : Small r) (stations : StationsWithin table) where
+module _ (calls : ℕ) (table : List ℕ) (r : Run) (small : Small r) (stations : StationsWithin table) where
   short : (i : ℕ) → i < 1024 → Short (lineOf table (r .book .own) (r .book .told) (r .book .point) (suc i) (getD (r .book .list) i 0))
   short i h =
       let c = getD (r .book .list) i 0 in
@@ -80,7 +80,7 @@ module _ (table : List ℕ) (r : Run) (small : Small r) (stations : StationsWith
   length-lines zero h = omega arith
   length-lines (suc i) h = simp length-append (omega (arith, length-lines i (omega arith), length-line _ (short i (omega arith))))
 
-  length-last : length (lastText (traceBy r)) ≤ 41
+  length-last : length (lastText (traceBy calls r)) ≤ 41
   unfolding lastText
   length-last =
       let h1 = digits (r .turns) 5 (omega (arith, small .turns)) (omega arith) in
@@ -92,7 +92,7 @@ module _ (table : List ℕ) (r : Run) (small : Small r) (stations : StationsWith
       simp length-append
       (omega (arith, rw length-append at h1, rw length-append at h2, rw length-append at h3, rw length-append at h4, rw length-append at h5, h6))
 
-  length-run : length (runText table r) ≤ 40960
+  length-run : length (runText calls table r) ≤ 40960
   unfolding sheetText
   length-run =
       let l = small .listed in
@@ -100,4 +100,4 @@ module _ (table : List ℕ) (r : Run) (small : Small r) (stations : StationsWith
 
 pub length-report : (file : List ℕ) → AllBytes file → readOf file .refused ≡ 0 → length (reportText file) ≤ 40960
 unfolding reportText SmallNumbers
-length-report file h well = length-run (tableOf file) (runOfFile file) (small-numbers file h well) (reads-well file well .stations)
+length-report file h well = length-run (readOf file .q) (tableOf file) (runOfFile file) (small-numbers file h well) (reads-well file well .stations)

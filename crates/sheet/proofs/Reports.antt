@@ -1,17 +1,18 @@
 -- What the report answers and leaves in the buffer, from the trace of the run. Assumes nothing.
 use mathlib.Core.Path.{_≡_, refl, _∙_, sym, ap}
-use mathlib.Core.Bool.{true}
+use mathlib.Core.Bool.{Bool, true, false}
 use mathlib.Core.List.{List, _++_}
 use Prim.Native.Nat.{ℕ, _<_, _≤_}
 use native.Mathlib.Omega.{arith}
-use borrow.Author.Tests.{eq-eqb, eqb-true, lt-ltb, le-ltb}
-use lib.Dec.{eqb}
+use borrow.Author.Tests.{eq-eqb, eqb-true, leb-true, leb-false, lt-ltb, le-ltb}
+use lib.Dec.{leb, eqb}
 use lib.ListN.{length, getD}
 use Rattle.octets.specs.Bytes.{AllBytes}
 use Rattle.rules.proofs.Facts.{either-way, and-both}
 use Rattle.script.specs.Wrote.{Wrote}
 use Rattle.script.proofs.Writes.{size, in-front}
 use Rattle.runfile.specs.Reading.{readOf, tableOf}
+use Rattle.runfile.proofs.Answers.{by-answer}
 use Rattle.run.specs.declared.Trace.{Trace}
 use Rattle.run.specs.Drive.{runOfFile}
 use Rattle.run.specs.Trace.{padded, fit, traceBy, traceOf, lentRow, TracedTo}
@@ -26,6 +27,14 @@ use Rattle.sheet.proofs.Lengths.{length-report}
 pub rows-fit : (own told point list : List ℕ) → length own ≡ 1025 → length told ≡ 1025 → length point ≡ 1025 → length list ≡ 1025 → fit own told point list ≡ true
 rows-fit own told point list a b c d =
     and-both (eq-eqb (length own) 1025 a) (and-both (eq-eqb (length told) 1025 b) (and-both (eq-eqb (length point) 1025 c) (eq-eqb (length list) 1025 d)))
+
+-- the call table stands at the front
+pub from-front : (file : List ℕ) → readOf file .start ≡ 0
+from-front file = by-answer file (λ r. r .start ≡ 0) (λ r k n. refl) (λ g. refl)
+
+-- a sheet that is measured on a buffer of one byte
+pub measured : {a b : List ℕ} {j : ℕ} (text : List ℕ) (room : ℕ) → Wrote a b 0 j text → length text ≤ 40960 → leb j room ≡ leb (length text) room
+measured text room w h = ap (λ k. leb k room) (size w (omega arith))
 
 module _ (file out own told point list own′ told′ point′ list′ : List ℕ) (t : Trace) (f : fit own told point list ≡ true)
     (e : TracedTo file own told point list t own′ told′ point′ list′) where
@@ -51,9 +60,12 @@ module _ (file out own told point list own′ told′ point′ list′ : List �
         either-way (eqb (readOf file .refused) 0) (λ b. eqb-true (readOf file .refused) 0 b)
         (λ b. sym (ap (λ (t : Trace). t .refused) given ∙ rw b refl) ∙ z)
 
-    numbers : t ≡ traceBy (runOfFile file)
+    numbers : t ≡ traceBy (readOf file .q) (runOfFile file)
     unfolding traceOf
     numbers = given ∙ rw (eq-eqb (readOf file .refused) 0 well) refl
+
+    pub calls-read : t .calls ≡ readOf file .q
+    calls-read = ap (λ (t : Trace). t .calls) numbers
 
     left-in : (row before : List ℕ) → lentRow t row before ≡ row
     left-in row before = rw (eq-eqb (t .refused) 0 z) refl
@@ -69,28 +81,29 @@ module _ (file out own told point list own′ told′ point′ list′ : List �
         same-text =
             let book = runOfFile file .book in
             rw (numbers, g, e .owns, e .tolds, e .points, e .lists, left-in (book .own) own, left-in (book .told) told, left-in (book .point) point, left-in (padded (book .list)) list)
-            (ap (λ l. l ++ lastText (traceBy (runOfFile file))) (lines-padded (tableOf file) (book .own) (book .told) (book .point) (book .list) (length (book .list))))
+            (ap (λ l. l ++ lastText (traceBy (readOf file .q) (runOfFile file))) (lines-padded (tableOf file) (book .own) (book .told) (book .point) (book .list) (length (book .list))))
 
-        measured : {a b : List ℕ} {j : ℕ} → Wrote a b 0 j (sheetText t table own′ told′ point′ list′) → j ≡ length (reportText file)
-        measured w = let l = length-report file h well in size (rw same-text at w) (omega arith)
+        pub at-most : length (sheetText t table own′ told′ point′ list′) ≤ 40960
+        at-most = rw same-text (length-report file h well)
 
-        pub short : {a b : List ℕ} {j : ℕ} → Wrote a b 0 j (sheetText t table own′ told′ point′ list′) → length out < j → ReportedTo file out (reported 14 0 0) out
+        pub short : (fits : Bool) → fits ≡ leb (length (sheetText t table own′ told′ point′ list′)) (length out) → fits ≡ false
+            → ReportedTo file out (reported 14 0 0) out
         unfolding reportOf reportedOn
-        short w l =
+        short fits tested none =
             let b = eq-eqb (readOf file .refused) 0 well in
-            let m = measured w in
-            let k = lt-ltb (length out) (length (reportText file)) (omega arith) in
+            let l = leb-false (length (reportText file)) (length out) (ap (λ l. leb (length l) (length out)) (sym same-text) ∙ sym tested ∙ none) in
+            let k = lt-ltb (length out) (length (reportText file)) l in
             record { answered = simp (b, k); left = simp (b, k) }
 
-        pub written : {a b after : List ℕ} {j k : ℕ} → Wrote a b 0 j (sheetText t table own′ told′ point′ list′) → j ≤ length out
-            → Wrote out after 0 k (sheetText t table own′ told′ point′ list′) → ReportedTo file out (reported 0 0 j) after
+        pub written : (fits : Bool) → fits ≡ leb (length (sheetText t table own′ told′ point′ list′)) (length out) → fits ≡ true
+            → {after : List ℕ} {j : ℕ} → Wrote out after 0 j (sheetText t table own′ told′ point′ list′) → ReportedTo file out (reported 0 0 j) after
         unfolding reportOf reportedOn
-        written w l v =
+        written fits tested all v =
             let b = eq-eqb (readOf file .refused) 0 well in
-            let m = measured w in
-            let h : length (reportText file) ≤ length out = omega arith in
-            let k = le-ltb (length out) (length (reportText file)) h in
-            record { answered = simp (b, k, m); left = simp (b, k) (in-front (rw same-text at v) h) }
+            let l = leb-true (length (reportText file)) (length out) (ap (λ l. leb (length l) (length out)) (sym same-text) ∙ sym tested ∙ all) in
+            let k = le-ltb (length out) (length (reportText file)) l in
+            let m = size (rw same-text at v) (omega (arith, length-report file h well)) in
+            record { answered = simp (b, k, m); left = simp (b, k) (in-front (rw same-text at v) l) }
 
 pub always-enough : AlwaysEnough
 unfolding AlwaysEnough reportOf

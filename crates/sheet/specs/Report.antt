@@ -13,13 +13,13 @@ use Rattle.run.specs.Trace.{traceBy}
 use Rattle.sheet.specs.declared.Reported.{Reported}
 use Rattle.sheet.specs.Sheet.{sheetText}
 
--- the sheet of a run of a call table
-abbrev pub runText : List ℕ → Run → List ℕ
-runText table r = sheetText (traceBy r) table (r .book .own) (r .book .told) (r .book .point) (r .book .list)
+-- the sheet of a run of a table of so many calls
+abbrev pub runText : ℕ → List ℕ → Run → List ℕ
+runText calls table r = sheetText (traceBy calls r) table (r .book .own) (r .book .told) (r .book .point) (r .book .list)
 
 -- the text of a file that reads well
 unfoldable pub reportText : List ℕ → List ℕ
-reportText file = runText (tableOf file) (runOfFile file)
+reportText file = runText (readOf file .q) (tableOf file) (runOfFile file)
 
 abbrev pub reported : ℕ → ℕ → ℕ → Reported
 reported refused k len = record { refused = refused; k = k; len = len }

@@ -1,9 +1,44 @@
 // The report of a file: its run's sheet, or its refusal.
 ghost use mathlib.Core.Path.{_≡_};
+ghost use Prim.Native.Nat.{_≤_};
+ghost use lib.Dec.{leb};
 ghost use lib.ListN.{length};
+ghost use Rattle.runfile.specs.Reading.{readOf, tableOf};
+ghost use Rattle.sheet.specs.Sheet.{Answers, sheetText};
 ghost use Rattle.sheet.specs.Report.{ReportedTo, AlwaysEnough, ReportSettled};
 use crate::Reported;
 use crate::lines::put_sheet;
+use run::Trace;
+
+// The call table of a file that was read as having so many calls.
+fn table_of(file: &[u8], calls: usize) -> &[u8]
+    requires { ⌜ calls ≡ readOf (now file) .q ⌝ }
+    ensures { λ r. ⌜ now r ≡ tableOf (now (file .entry)) ⌝ }
+{
+    let e = 12 * calls;
+    &file[0..e]
+}
+
+// Whether the sheet has its place: 40,960 bytes are enough, and what is less is held to what the sheet takes on a buffer of one byte.
+fn has_room(
+    room: usize,
+    t: Trace,
+    table: &[u8],
+    own: &[u32],
+    told: &[u64],
+    point: &[u32],
+    list: &[u32],
+) -> bool
+    requires { ⌜ Answers (now told) × (length (sheetText t (now table) (now own) (now told) (now point) (now list)) ≤ 40960) ⌝ }
+    ensures { λ r. ⌜ r ≡ leb (length (sheetText t (now (table .entry)) (now (own .entry)) (now (told .entry)) (now (point .entry)) (now (list .entry)))) room ⌝ }
+{
+    if 40960 <= room {
+        return true;
+    }
+    let mut none = [0u8; 1];
+    let len = put_sheet(&mut none, t, table, own, told, point, list);
+    len <= room
+}
 
 // The same with rows for the run's book.
 fn report_by(
@@ -25,17 +60,16 @@ fn report_by(
             len: 0,
         };
     }
-    let table = runfile::table(file);
-    let mut none = [0u8; 1];
-    let len = put_sheet(&mut none, t, table, own, told, point, list);
-    if out.len() < len {
+    let table = table_of(file, t.calls);
+    let fits = has_room(out.len(), t, table, own, told, point, list);
+    if !fits {
         return Reported {
             refused: 14,
             k: 0,
             len: 0,
         };
     }
-    put_sheet(out, t, table, own, told, point, list);
+    let len = put_sheet(out, t, table, own, told, point, list);
     Reported {
         refused: 0,
         k: 0,

@@ -30,4 +30,4 @@ traced-by-spec =
     let l = c .before .before .before in
     let a = c .before .before .before .before .before .before .before .before .before .before .before .before .before .before .before .before .before .before .before .before .before .before .before .before .before in
     let s = c .before .before .before .before .before .before .before .before .before .before .before .before .before .before .before .before .before .before .before .before .before .before .before .before .before .before .before .before .before .before .before .before .before .before .before .before .before .before .before .before .before .before .before in
-    whole (s .args .file .now) _ _ _ _ (a .ran .result) (a .ran .ensures) (a .ran .kept .1 .1 .1 .1 .1 .1 .1 .1 .0 ∙ ap length (s .pre .1 .0 .lists)) _ _ _ _ _ _ (s .pre .0) (blank-fits (s .pre .1 .0)) (turns-counted (s .args .file .now) (s .args .a) (s .pre .1 .1)) (l .clear .ensures)))
+    whole (s .args .file .now) _ _ _ _ (a .ran .result) (a .ran .ensures) (a .ran .kept .1 .1 .1 .1 .1 .1 .1 .1 .0 ∙ ap length (s .pre .1 .0 .lists)) _ _ _ _ _ _ _ (s .pre .0) (blank-fits (s .pre .1 .0)) (ap (λ r. r .q) (s .pre .1 .1)) (turns-counted (s .args .file .now) (s .args .a) (s .pre .1 .1)) (l .clear .ensures)))

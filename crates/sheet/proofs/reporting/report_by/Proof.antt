@@ -1,10 +1,11 @@
 -- The rows that are lent fit, so the trace is the file's refusal or its run.
 use borrow.Author.Needs.{needs}
+use borrow.Author.Tests.{not-true, not-false}
 use mathlib.Core.Path.{_≡_}
 use mathlib.Core.Bool.{true}
 use Rattle.octets.specs.Bytes.{AllBytes}
 use Rattle.run.specs.Trace.{fit}
-use Rattle.sheet.proofs.Reports.{rows-fit, refused, answers, short, written}
+use Rattle.sheet.proofs.Reports.{rows-fit, refused, calls-read, answers, at-most, short, written}
 use Rattle.sheet.proofs.reporting.report_by.Statement.{statement}
 use Rattle.sheet.proofs.reporting.report_by.Tie as tie
 
@@ -28,30 +29,33 @@ report-by-spec =
     (λ c.
     let s = c .before .before .before .before .before .before .before .before .before .before .before .before .before .before .before .before .before .before .before .before .before in
     refused (s .args .file .now) (s .args .out .now) (s .args .own .now) (s .args .told .now) (s .args .point .now) (s .args .list .now) _ _ _ _ _ (fits s) (c .before .before .before .before .before .before .before .before .before .before .traced .ensures) (c .if1 .taken))
-    (λ c κs. search needs)
-    (λ c. search needs)
     (λ c κs.
-    let e = c .before .before .before .before .before .before in
-    let s = first e .before in
-    answers (s .args .file .now) (s .args .out .now) (s .args .own .now) (s .args .told .now) (s .args .point .now) (s .args .list .now) _ _ _ _ _ (fits s) (c .before .before .before .before .before .before .before .before .before .before .before .before .before .before .before .before .traced .ensures) (e .if1 .left) (bytes e))
+    let s = first c .before in
+    calls-read (s .args .file .now) (s .args .out .now) (s .args .own .now) (s .args .told .now) (s .args .point .now) (s .args .list .now) _ _ _ _ _ (fits s) (c .before .before .before .before .before .before .before .before .before .before .traced .ensures) (c .if1 .left))
+    (λ c κs.
+    let e = c .before .before .before .before .before in
+    let s = first e .before in (
+      answers (s .args .file .now) (s .args .out .now) (s .args .own .now) (s .args .told .now) (s .args .point .now) (s .args .list .now) _ _ _ _ _ (fits s) (c .before .before .before .before .before .before .before .before .before .before .before .before .before .before .before .traced .ensures) (e .if1 .left) (bytes e),
+      at-most (s .args .file .now) (s .args .out .now) (s .args .own .now) (s .args .told .now) (s .args .point .now) (s .args .list .now) _ _ _ _ _ (fits s) (c .before .before .before .before .before .before .before .before .before .before .before .before .before .before .before .traced .ensures) (e .if1 .left) (bytes e) _ (c .before .before .before .before .table-of .ensures),
+    ))
     (λ c. search needs)
     (λ c. search needs)
     (λ c. search needs)
     (λ c. search needs)
     (λ c.
-    let e = c .before .before .before .before .before .before .before .before .before in
+    let e = c .before .before .before .before .before .before .before in
     let s = first e .before in
-    short (s .args .file .now) (s .args .out .now) (s .args .own .now) (s .args .told .now) (s .args .point .now) (s .args .list .now) _ _ _ _ _ (fits s) (c .before .before .before .before .before .before .before .before .before .before .before .before .before .before .before .before .before .before .before .traced .ensures) (e .if1 .left) (bytes e) _ (c .before .before .before .before .before .before .before .before .table .ensures) (c .before .before .put-sheet .ensures) (c .if2 .taken))
+    short (s .args .file .now) (s .args .out .now) (s .args .own .now) (s .args .told .now) (s .args .point .now) (s .args .list .now) _ _ _ _ _ (fits s) (c .before .before .before .before .before .before .before .before .before .before .before .before .before .before .before .before .before .traced .ensures) (e .if1 .left) (bytes e) _ (c .before .before .before .before .before .before .table-of .ensures) _ (c .before .has-room .ensures) (not-true _ (c .if2 .taken)))
     (λ c κs.
-    let e = c .before .before .before .before .before .before .before .before .before .before .before .before .before .before in
+    let e = c .before .before .before .before .before .before .before .before .before .before .before .before in
     let s = first e .before in
-    answers (s .args .file .now) (s .args .out .now) (s .args .own .now) (s .args .told .now) (s .args .point .now) (s .args .list .now) _ _ _ _ _ (fits s) (c .before .before .before .before .before .before .before .before .before .before .before .before .before .before .before .before .before .before .before .before .before .before .before .before .traced .ensures) (e .if1 .left) (bytes e))
+    answers (s .args .file .now) (s .args .out .now) (s .args .own .now) (s .args .told .now) (s .args .point .now) (s .args .list .now) _ _ _ _ _ (fits s) (c .before .before .before .before .before .before .before .before .before .before .before .before .before .before .before .before .before .before .before .before .before .before .traced .ensures) (e .if1 .left) (bytes e))
     (λ c. search needs)
     (λ c. search needs)
     (λ c. search needs)
     (λ c. search needs)
     (λ c. search needs)
     (λ c.
-    let e = c .before .before .before .before .before .before .before .before .before .before .before .before .before .before .before .before .before in
+    let e = c .before .before .before .before .before .before .before .before .before .before .before .before .before .before .before in
     let s = first e .before in
-    written (s .args .file .now) (s .args .out .now) (s .args .own .now) (s .args .told .now) (s .args .point .now) (s .args .list .now) _ _ _ _ _ (fits s) (c .before .before .before .before .before .before .before .before .before .before .before .before .before .before .before .before .before .before .before .before .before .before .before .before .before .before .before .traced .ensures) (e .if1 .left) (bytes e) _ (c .before .before .before .before .before .before .before .before .before .before .before .before .before .before .before .before .table .ensures) (c .before .before .before .before .before .before .before .before .before .before .put-sheet .ensures) (c .before .before .before .before .before .before .before .before .if2 .left) (c .before .before .put-sheet2 .ensures)))
+    written (s .args .file .now) (s .args .out .now) (s .args .own .now) (s .args .told .now) (s .args .point .now) (s .args .list .now) _ _ _ _ _ (fits s) (c .before .before .before .before .before .before .before .before .before .before .before .before .before .before .before .before .before .before .before .before .before .before .before .before .before .traced .ensures) (e .if1 .left) (bytes e) _ (c .before .before .before .before .before .before .before .before .before .before .before .before .before .before .table-of .ensures) _ (c .before .before .before .before .before .before .before .before .before .has-room .ensures) (not-false _ (c .before .before .before .before .before .before .before .before .if2 .left)) (c .before .before .put-sheet .ensures)))
