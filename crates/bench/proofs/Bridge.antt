@@ -1,12 +1,10 @@
 -- The moves against the table: what a turn reaches, taken out, moved and put back, makes the row. Assumes nothing.
-use mathlib.Core.Path.{_≡_, refl, _∙_, sym, ap}
-use mathlib.Core.List.{[], _∷_}
-use mathlib.Core.Bool.{Bool, true, false, cond, not, _&&_, _||_}
+use mathlib.Core.Path.{_≡_, _∙_, sym, ap}
+use mathlib.Core.Bool.{Bool, true, false, cond, not}
 use Prim.Native.Nat.{ℕ}
 use lib.Dec.{eqb, ltb}
 use lib.ListN.{set}
 use lib.Seq.{set-getD}
-use Rattle.rules.specs.Refusal.{refusal, refusalOf}
 use Rattle.rules.proofs.Facts.{passed}
 use Rattle.card.specs.Register.{halves}
 use Rattle.method.specs.declared.Place.{Place}
@@ -15,37 +13,15 @@ use Rattle.method.specs.declared.Station.{Station}
 use Rattle.method.specs.declared.Answer.{Answer}
 use Rattle.method.specs.declared.Answer.the-variants.{Idle, Going, Ended, Refused}
 use Rattle.method.specs.Record.{call, resting}
-use Rattle.method.specs.Table.{Access, handed, begun, row2, row5, row}
+use Rattle.method.specs.Table.{handed, begun, row}
+use Rattle.reach.specs.declared.Moved.{Moved}
+use Rattle.reach.specs.declared.Reach.{Reach}
+use Rattle.reach.specs.Step.{countLimit, versionLimit, stepOf}
+use Rattle.reach.specs.Reach.{readyRules, Ready, reaching, reach, moved, onReach, moveOf}
+use Rattle.reach.proofs.Rest.{restInOrder, rest-law}
 use Rattle.bench.specs.declared.Bench.{Bench}
 use Rattle.bench.specs.declared.Turned.{Turned}
-use Rattle.bench.specs.declared.Reach.{Reach}
-use Rattle.bench.specs.declared.Moved.{Moved}
 use Rattle.bench.specs.Record.{stationAt, aAt, rAt, putStation, turned, onBench}
-use Rattle.bench.specs.Sound.{countLimit, versionLimit}
-use Rattle.bench.specs.Turn.{orRefused, stepOf}
-use Rattle.bench.specs.Reach.{readyRules, Ready, reaching, reach, moved, onReach, moveOf}
-
--- a station at rest, in the order in which the code looks at it: the offer's kind, then 12, then 13
-module _ {W Out : Type 0} (on : Access W Out) (w : W) (i : ℕ) (t : Station) (kind a b : ℕ) where
-  abbrev pub restInOrder : Bool → Bool → Bool → Bool → Out
-  restInOrder none reads full late =
-      cond none (on .give Idle w)
-      (cond reads (row2 on w i) (cond full (on .give (Refused 12) w) (cond late (on .give (Refused 13) w) (row5 on w i t kind a b))))
-
-  in-order : (none reads full late : Bool)
-      → orRefused on (refusalOf (refusal 12 (not (reads || none) && full) ∷ refusal 13 (not (reads || none) && late) ∷ [])) w
-      (cond none (on .give Idle w) (cond reads (row2 on w i) (row5 on w i t kind a b)))
-      ≡ restInOrder none reads full late
-  in-order true true full late = refl
-  in-order true false full late = refl
-  in-order false true full late = refl
-  in-order false false true late = refl
-  in-order false false false true = refl
-  in-order false false false false = refl
-
-  pub rest-law : stepOf on Rest w i t kind a b ≡ restInOrder (eqb kind 3) (eqb kind 0) (eqb (t .c) countLimit) (ltb versionLimit (on .v w i .first))
-  unfolding stepOf row
-  rest-law = in-order (eqb kind 3) (eqb kind 0) (eqb (t .c) countLimit) (ltb versionLimit (on .v w i .first))
 
 -- what the turn of station i takes out, with the entry k of A and R, and the bench with it put back
 abbrev pub taken : Bench → ℕ → ℕ → Reach

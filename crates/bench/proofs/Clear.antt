@@ -12,14 +12,15 @@ use Rattle.rules.proofs.Facts.{either-way, or-none}
 use Rattle.method.specs.declared.Place.{Place}
 use Rattle.method.specs.declared.Place.the-variants.{Rest, At11, At12, At13, At14, At15, At16, At18, At19, At20}
 use Rattle.method.specs.declared.Station.{Station}
+use Rattle.reach.specs.Step.{countLimit, versionLimit, wouldBegin, orRefused}
 use Rattle.bench.specs.declared.Bench.{Bench}
 use Rattle.bench.specs.declared.Turned.{Turned}
 use Rattle.method.specs.declared.Answer.the-variants.{Idle, Going, Ended, Refused}
 use Rattle.method.specs.Record.{told, call}
 use Rattle.method.specs.Table.{handed, begun, row}
 use Rattle.bench.specs.Record.{stationAt, putStation, turned, onBench}
-use Rattle.bench.specs.Sound.{countLimit, versionLimit, sound}
-use Rattle.bench.specs.Turn.{wouldBegin, orRefused, turnRefusals, turnOf}
+use Rattle.bench.specs.Sound.{sound}
+use Rattle.bench.specs.Turn.{turnRefusals, turnOf}
 use Rattle.bench.specs.Promise.{Turn, turnBy, RefusesExactly}
 
 -- a row refuses nothing

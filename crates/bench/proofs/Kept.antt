@@ -19,13 +19,13 @@ use Rattle.rules.proofs.Facts.{either-way, and-left, and-right}
 use Rattle.method.specs.declared.Place.{Place}
 use Rattle.method.specs.declared.Place.the-variants.{Rest, At11, At12, At13, At14, At15, At16, At18, At19, At20}
 use Rattle.method.specs.declared.Station.{Station}
+use Rattle.reach.specs.Step.{versionLimit, wouldBegin}
 use Rattle.bench.specs.declared.Bench.{Bench}
 use Rattle.method.specs.declared.Answer.the-variants.{Idle, Going, Ended}
 use Rattle.method.specs.Record.{call, resting}
 use Rattle.method.specs.Table.{handed, sees, goes, begun, grown, row2, row5, row11, row12, row13, row14, row15, row16, row18, row19, row20, row}
 use Rattle.bench.specs.Record.{stationAt, aAt, rAt, putStation, putP, turned, onBench}
-use Rattle.bench.specs.Sound.{versionLimit, headRules, aRules, rRules}
-use Rattle.bench.specs.Turn.{wouldBegin}
+use Rattle.bench.specs.Sound.{headRules, aRules, rRules}
 use Rattle.bench.proofs.Sounds.{Stands, StationKept, Sound}
 
 -- what holds of the new value and of every old one holds after the store, at each index

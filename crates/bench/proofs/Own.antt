@@ -13,13 +13,14 @@ use Rattle.rules.proofs.Facts.{either-way}
 use Rattle.method.specs.declared.Place.{Place}
 use Rattle.method.specs.declared.Place.the-variants.{Rest, At11, At12, At13, At14, At15, At16, At18, At19, At20}
 use Rattle.method.specs.declared.Station.{Station}
+use Rattle.reach.specs.Step.{countLimit}
 use Rattle.bench.specs.declared.Bench.{Bench}
 use Rattle.bench.specs.declared.Turned.{Turned}
 use Rattle.method.specs.declared.Answer.the-variants.{Idle, Going, Ended, Refused}
 use Rattle.method.specs.Record.{told, call, resting}
 use Rattle.method.specs.Table.{handed, sees, goes, begun, grown, row2, row}
 use Rattle.bench.specs.Record.{stationAt, putStation, turned, onBench}
-use Rattle.bench.specs.Sound.{countLimit, sound}
+use Rattle.bench.specs.Sound.{sound}
 use Rattle.bench.specs.Promise.{Turn, turnBy, after, counted, operations, OwnTurnsCount}
 use Rattle.bench.proofs.Sounds.{Stands, facts}
 use Rattle.bench.proofs.Clear.{by-turn}

@@ -10,10 +10,11 @@ use lib.ListN.{getD-replicate}
 use Rattle.card.specs.Register.{halves}
 use Rattle.rules.specs.Test.{When}
 use Rattle.rules.proofs.Facts.{either-way, or-none}
+use Rattle.reach.specs.Step.{countLimit}
 use Rattle.bench.specs.declared.Bench.{Bench}
 use Rattle.method.specs.Record.{resting}
 use Rattle.bench.specs.Record.{blank, stationAt}
-use Rattle.bench.specs.Sound.{countLimit, stationLimit, sound}
+use Rattle.bench.specs.Sound.{stationLimit, sound}
 use Rattle.bench.specs.Turn.{freshOf}
 use Rattle.bench.specs.Promise.{Turn, turnBy, KeptSound}
 use Rattle.bench.proofs.Sounds.{StationKept, Sound, facts, holds}

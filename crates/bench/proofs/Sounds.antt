@@ -9,10 +9,11 @@ use Rattle.rules.proofs.Facts.{and-left, and-right, and-both, all-keep, all-kep
 use Rattle.method.specs.declared.Place.{Place}
 use Rattle.method.specs.declared.Place.the-variants.{Rest, At11, At12, At13, At14, At15, At16, At18, At19, At20}
 use Rattle.method.specs.declared.Station.{Station}
+use Rattle.reach.specs.Step.{countLimit}
+use Rattle.reach.specs.Reach.{Ready, reaching}
 use Rattle.bench.specs.declared.Bench.{Bench}
 use Rattle.bench.specs.Record.{stationAt, aAt, rAt}
-use Rattle.bench.specs.Sound.{countLimit, restsZero, ownTurns, inCall, roomAt11, unreadTo15, unreadAt16, agreedAt18, stationAbove, headRules, aRules, rRules, stationRules, entryKept, eachEntry, sound}
-use Rattle.bench.specs.Reach.{Ready, reaching}
+use Rattle.bench.specs.Sound.{restsZero, ownTurns, inCall, roomAt11, unreadTo15, unreadAt16, agreedAt18, stationAbove, headRules, aRules, rRules, stationRules, entryKept, eachEntry, sound}
 use Rattle.bench.proofs.Entries.{keptAt, each-holds, all-hold}
 
 abbrev pub AKept : ℕ → Bench → ℕ → Type 0

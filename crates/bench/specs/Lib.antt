@@ -1,5 +1,4 @@
 pub mod Record
 pub mod Sound
 pub mod Turn
-pub mod Reach
 pub mod Promise

@@ -4,23 +4,17 @@ use mathlib.Core.List.{List, [], _∷_}
 use Prim.Native.Nat.{ℕ, zero, suc}
 use lib.Dec.{leb, ltb, eqb}
 use Rattle.card.specs.declared.Halves.{Halves}
-use Rattle.card.specs.Word as Word
 use Rattle.rules.specs.Test.{Test, same, differ, atMost, even, oneOf, Rule, given, always, allKept}
 use Rattle.method.specs.declared.Place.{Place}
 use Rattle.method.specs.declared.Place.the-variants.{Rest, At11, At12, At13, At14, At15, At16, At18, At19, At20}
 use Rattle.method.specs.declared.Station.{Station}
+use Rattle.reach.specs.Step.{countLimit, versionLimit}
 use Rattle.bench.specs.declared.Bench.{Bench}
 use Rattle.method.specs.Record.{num}
 use Rattle.bench.specs.Record.{stationAt, aAt, rAt}
 
-abbrev pub countLimit : ℕ
-countLimit = Word.countLimit Word.revisionA
-
 abbrev pub stationLimit : ℕ
 stationLimit = 32
-
-abbrev pub versionLimit : ℕ
-versionLimit = 4294967292
 
 -- n is 1 to 32
 abbrev pub fewStations : Bench → Rule

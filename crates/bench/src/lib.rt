@@ -1,7 +1,6 @@
 // The bench: its registers and stations, and what a turn takes and hands back. A fresh bench is made here.
-// Its modules: sound (the test of a bench), moves (one station's operation), turns (one turn of the bench).
+// Its modules: sound (the test of a bench), turns (one turn of the bench).
 ghost use mathlib.Core.Path.{_≡_};
-ghost use Rattle.method.specs.Record.{resting};
 ghost use Rattle.bench.specs.Record.{blank};
 ghost use Rattle.bench.specs.Turn.{freshOf};
 use card::Claim;
@@ -10,12 +9,10 @@ use method::Answer;
 use method::Call;
 use method::Place;
 use method::Station;
+use reach::Reach;
 
-mod moves;
 mod sound;
 mod turns;
-
-pub use moves::reaches;
 
 // Entry 0 of a and r belongs to no station; station 0 stays at rest.
 pub struct Bench {
@@ -39,50 +36,6 @@ pub struct Made {
     pub bench: Bench,
 }
 
-// What one turn of station id can reach: V, P, the one entry of A and of R, and the station's record.
-pub struct Reach {
-    pub id: u32,
-    pub v: Halves,
-    pub p: Claim,
-    pub a: Halves,
-    pub r: Halves,
-    pub station: Station,
-}
-
-pub struct Moved {
-    pub answer: Answer,
-    pub reach: Reach,
-}
-
-// A station at rest with the count c.
-fn resting(c: u32) -> Station
-    ensures { λ r. ⌜ r ≡ resting c ⌝ }
-{
-    let call = Call {
-        kind: 0,
-        a: 0,
-        b: 0,
-    };
-    let saw = Claim {
-        seq: 0,
-        pid: 0,
-        c: 0,
-    };
-    let entry = Halves {
-        first: 0,
-        second: 0,
-    };
-    Station {
-        place: Place::Rest,
-        call,
-        s: 0,
-        own: 0,
-        c,
-        saw,
-        entry,
-    }
-}
-
 impl Bench {
     pub const STATIONS: u32 = 32;
 
@@ -90,9 +43,9 @@ impl Bench {
 
     pub const TURNS: u32 = 40960;
     // The largest count of a station.
-    pub const COUNT: u32 = 65535;
+    pub const COUNT: u32 = Reach::COUNT;
     // The largest version that a contest may start from.
-    pub const VERSION: u32 = 4294967292;
+    pub const VERSION: u32 = Reach::VERSION;
 
     fn blank(x: u32, n: u32) -> Bench
         ensures { λ r. ⌜ r ≡ blank x n ⌝ }
@@ -110,7 +63,20 @@ impl Bench {
             pid: 0,
             c: 0,
         };
-        let station = resting(0);
+        let call = Call {
+            kind: 0,
+            a: 0,
+            b: 0,
+        };
+        let station = Station {
+            place: Place::Rest,
+            call,
+            s: 0,
+            own: 0,
+            c: 0,
+            saw: p,
+            entry: zero,
+        };
         let a = [zero; 33];
         let r = [zero; 33];
         let stations = [station; 33];

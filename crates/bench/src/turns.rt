@@ -4,12 +4,13 @@ ghost use mathlib.Core.Bool.{true};
 ghost use Prim.Native.Nat.{_<_};
 ghost use Rattle.bench.specs.Record.{stationAt, onBench};
 ghost use Rattle.bench.specs.Sound.{sound};
-ghost use Rattle.bench.specs.Turn.{badOffer, stepOf, turnOf};
+ghost use Rattle.bench.specs.Turn.{badOffer, turnOf};
+ghost use Rattle.reach.specs.Step.{stepOf};
 use crate::Bench;
-use crate::Reach;
 use crate::Turned;
-use crate::moves::reaches;
 use method::Answer;
+use reach::Reach;
+use reach::reaches;
 
 fn bad_offer(kind: u32, a: u32, b: u32) -> bool
     ensures { λ r. ⌜ r ≡ badOffer kind a b ⌝ }

@@ -24,10 +24,10 @@ use Rattle.method.specs.Watch.{Event, Watcher, watching, watched, Good}
 use Rattle.method.specs.Events.{eventsOf}
 use Rattle.method.proofs.Upd.{upd-all, upd-id}
 use Rattle.method.proofs.Inv.{Inv, start, turn}
+use Rattle.reach.specs.Reach.{reaching}
 use Rattle.bench.specs.declared.Bench.{Bench}
 use Rattle.bench.specs.declared.Turned.{Turned}
 use Rattle.bench.specs.Record.{blank, stationAt, aAt, rAt, putStation, turned, onBench}
-use Rattle.bench.specs.Reach.{reaching}
 use Rattle.bench.specs.Promise.{Turn, turnBy}
 use Rattle.bench.proofs.Sounds.{facts, within-at}
 use Rattle.bench.proofs.Clear.{by-turn}

@@ -15,14 +15,14 @@ use Rattle.card.specs.Register as Register
 use Rattle.card.specs.Word as Word
 use Rattle.method.specs.declared.Place.{Place}
 use Rattle.method.specs.declared.Station.{Station}
-use Rattle.bench.specs.declared.Reach.{Reach}
-use Rattle.bench.specs.declared.Moved.{Moved}
+use Rattle.reach.specs.declared.Moved.{Moved}
+use Rattle.reach.specs.declared.Reach.{Reach}
+use Rattle.reach.specs.Reach as Reach
 use Rattle.bench.specs.declared.Bench.{Bench}
 use Rattle.bench.specs.declared.Turned.{Turned}
 use Rattle.bench.specs.declared.Made.{Made}
 use Rattle.method.specs.Record as Record
 use Rattle.bench.specs.Sound as Sound
-use Rattle.bench.specs.Reach as Reach
 use Rattle.bench.specs.Turn as Turn
 use Rattle.run.specs.declared.Trace.{Trace}
 use Rattle.run.specs.Trace.{TracedTo}

@@ -22,12 +22,13 @@ use Rattle.method.specs.declared.Answer.{Answer}
 use Rattle.method.specs.declared.Answer.the-variants.{Idle, Going, Ended, Refused}
 use Rattle.method.specs.Record.{num, resting}
 use Rattle.method.specs.Record as Answers
+use Rattle.reach.specs.declared.Moved.{Moved}
+use Rattle.reach.specs.Step.{countLimit}
+use Rattle.reach.specs.Reach.{reaching, moveOf}
 use Rattle.bench.specs.declared.Bench.{Bench}
-use Rattle.bench.specs.declared.Moved.{Moved}
 use Rattle.bench.specs.Record.{stationAt}
-use Rattle.bench.specs.Reach.{reaching, moveOf}
 use Rattle.bench.specs.Promise.{turnBy}
-use Rattle.bench.specs.Sound.{sound, countLimit}
+use Rattle.bench.specs.Sound.{sound}
 use Rattle.bench.proofs.Sounds.{Stands, facts, ready-at}
 use Rattle.bench.proofs.Bridge.{taken, putBack}
 use Rattle.bench.proofs.Promised.{turn-sound}

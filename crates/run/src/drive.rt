@@ -15,9 +15,9 @@ use crate::calls::left;
 use crate::calls::offered;
 use crate::calls::waiting;
 use bench::Bench;
-use bench::Reach;
-use bench::reaches;
 use method::Answer;
+use reach::Reach;
+use reach::reaches;
 
 fn wide(b: u8) -> u32
     ensures { λ r. ⌜ r ≡ b ⌝ }

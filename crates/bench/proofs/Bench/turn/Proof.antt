@@ -6,8 +6,9 @@ use native.Mathlib.Omega.{arith}
 use borrow.Author.Needs.{needs}
 use borrow.Author.Tests.{not-true, not-false, ltb-false}
 use Rattle.rules.proofs.Facts.{or-none}
+use Rattle.reach.specs.Step.{stepOf}
 use Rattle.bench.specs.Sound.{sound}
-use Rattle.bench.specs.Turn.{turnOf, stepOf}
+use Rattle.bench.specs.Turn.{turnOf}
 use Rattle.bench.proofs.Sounds.{facts}
 use Rattle.bench.proofs.Bench.turn.Statement.{statement}
 use Rattle.bench.proofs.Bench.turn.Tie as tie
