@@ -21,9 +21,9 @@ use Rattle.bench.proofs.Clear.{refuses-exactly}
 use Rattle.runfile.specs.Reading.{readOf, tableOf, turnsOf}
 use Rattle.runfile.proofs.Trailers.{bytes-part}
 use Rattle.run.specs.Calls.{onOffer}
-use Rattle.run.specs.Run.{runOf}
+use Rattle.run.specs.Run.{given, runOf}
 use Rattle.run.proofs.Files.{reads-well}
-use Rattle.limits.specs.Answers.{given, runAfter, NoneRefused}
+use Rattle.limits.specs.Answers.{runAfter, NoneRefused}
 use Rattle.limits.specs.Small.{SmallNumbers}
 use Rattle.limits.proofs.Books.{few-listed}
 use Rattle.limits.proofs.Runs.{Kept, counted, run-kept}

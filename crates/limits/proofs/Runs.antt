@@ -16,13 +16,13 @@ use Rattle.bench.proofs.Sounds.{facts, ready-at}
 use Rattle.bench.proofs.Promised.{turn-sound, kept-sound}
 use Rattle.runfile.specs.Layout.{records}
 use Rattle.run.specs.Calls.{onOffer, callFor}
-use Rattle.run.specs.Run.{Run, emptyBook, stepRun, runFrom, runOf}
+use Rattle.run.specs.Run.{Run, given, emptyBook, stepRun, runFrom, runOf}
 use Rattle.limits.specs.Within.{valueLimit, Within}
-use Rattle.limits.specs.Answers.{given}
 use Rattle.limits.proofs.Elements.{chosen}
 use Rattle.limits.proofs.Turns.{turn-gives}
 use Rattle.limits.proofs.Books.{BookWithin, noting}
-use Rattle.limits.proofs.Start.{fresh-bench, blank-within, empty-within}
+use Rattle.run.proofs.Start.{fresh-bench}
+use Rattle.limits.proofs.Start.{blank-within, empty-within}
 use Rattle.limits.proofs.Files.{call-small}
 
 -- what a run of n stations keeps

@@ -3,22 +3,16 @@ use mathlib.Core.Path.{_≡_, refl}
 use mathlib.Core.List.{List}
 use Prim.Native.Nat.{ℕ, zero, suc, _<_, _≤_}
 use native.Mathlib.Omega.{arith}
-use borrow.Author.Tests.{le-ltb, ne-eqb}
 use Rattle.card.specs.declared.Halves.{Halves}
 use Rattle.card.specs.Register.{halves}
 use Rattle.method.specs.Record.{told, resting}
 use Rattle.bench.specs.Record.{blank}
-use Rattle.bench.specs.Turn.{freshOf}
 use Rattle.runfile.specs.Layout.{records}
 use Rattle.run.specs.Rows.{pointed, CallsWithin}
 use Rattle.run.specs.Run.{firstCalls, emptyBook}
 use Rattle.limits.specs.Within.{valueLimit, StationWithin, Within}
 use Rattle.limits.proofs.Elements.{one-more, all-same}
 use Rattle.limits.proofs.Books.{BookWithin, call-after}
-
-pub fresh-bench : (x n : ℕ) → 1 ≤ n → n ≤ 32 → freshOf x n ≡ record { refused = 0; bench = blank x n }
-unfolding freshOf
-fresh-bench x n some few = rw (ne-eqb n 0 (λ q. omega arith), le-ltb 32 n few)
 
 pub blank-within : (x n : ℕ) → x < valueLimit → Within 0 (blank x n)
 blank-within x n h =

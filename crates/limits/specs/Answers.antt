@@ -7,14 +7,8 @@ use Rattle.octets.specs.Bytes.{AllBytes}
 use Rattle.runfile.specs.Reading.{readOf, tableOf, turnsOf}
 use Rattle.method.specs.declared.Answer.{Answer}
 use Rattle.method.specs.Record.{told}
-use Rattle.bench.specs.Record.{stationAt}
-use Rattle.bench.specs.Promise.{Turn, turnBy}
-use Rattle.run.specs.Calls.{offering, onOffer}
-use Rattle.run.specs.Run.{Run, runOf}
-
--- what a turn of station i is given in the run s: the station, and its next call where it is at rest
-abbrev pub given : List ℕ → Run → ℕ → Turn
-given table s i = offering table i (onOffer (stationAt (s .bench) i .place) (getD (s .book .upcoming) i 0))
+use Rattle.bench.specs.Promise.{turnBy}
+use Rattle.run.specs.Run.{Run, given, runOf}
 
 -- the file's run after its first k turns
 abbrev pub runAfter : List ℕ → ℕ → Run

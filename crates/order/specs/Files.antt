@@ -7,14 +7,12 @@ use lib.Dec.{eqb}
 use lib.ListN.{getD}
 use Rattle.method.specs.declared.Call.{Call}
 use Rattle.method.specs.Record.{call}
-use Rattle.bench.specs.Record.{stationAt}
 use Rattle.bench.specs.Turn.{freshOf}
 use Rattle.bench.specs.Promise.{turnBy}
 use Rattle.runfile.specs.Layout.{records, callOf}
 use Rattle.runfile.specs.Reading.{readOf, tableOf, turnsOf}
-use Rattle.run.specs.Calls.{offering, onOffer}
 use Rattle.run.specs.Book.{Book}
-use Rattle.run.specs.Run.{Run, emptyBook, stepRun}
+use Rattle.run.specs.Run.{Run, given, emptyBook, stepRun}
 use Rattle.run.specs.Drive.{runOfFile}
 use Rattle.order.specs.Log.{Log, noCalls, logged}
 use Rattle.order.specs.Demand.{Demand3}
@@ -23,7 +21,7 @@ use Rattle.order.specs.Demand.{Demand3}
 abbrev pub logStep : List ℕ → Run → Log → ℕ → Log
 logStep table s g i =
     let d = getD (s .book .upcoming) i 0 in
-    let u = offering table i (onOffer (stationAt (s .bench) i .place) d) in
+    let u = given table s i in
     logged (s .bench) (s .turns + 1) d u (turnBy (s .bench) u .answer) g
 
 -- turn by turn along the run

@@ -10,7 +10,7 @@ use Rattle.method.specs.Effect.{oneWord, points}
 use Rattle.bench.specs.declared.Bench.{Bench}
 use Rattle.bench.specs.Record.{stationAt}
 use Rattle.bench.specs.Turn.{freshOf}
-use Rattle.bench.specs.Promise.{turnBy}
+use Rattle.bench.specs.Promise.{Turn, turnBy}
 use Rattle.run.specs.Calls.{callAfter, offering, onOffer, callFor}
 use Rattle.run.specs.Book.{Book, acts, allEnter, ends, idles}
 
@@ -49,12 +49,16 @@ noted table w turn i c own (Ended result took) b =
     ends c result (allEnter turn (points oneWord (stationAt w) (w .n) i (t .place) (w .v) t (Ended result took)) (acts (eqb (num (t .place)) 0) i c (callAfter table i c) took b))
 noted table w turn i c own (Refused number) b = b
 
--- one turn of station i: the station is offered its next call. Turns are numbered from 1
+-- what a turn of station i is given: the station, and its next call where it is at rest
+abbrev pub given : List ℕ → Run → ℕ → Turn
+given table s i = offering table i (onOffer (stationAt (s .bench) i .place) (getD (s .book .upcoming) i 0))
+
+-- one turn of station i. Turns are numbered from 1
 abbrev pub stepRun : List ℕ → Run → ℕ → Run
 stepRun table s i =
     let p = stationAt (s .bench) i .place in
     let d = getD (s .book .upcoming) i 0 in
-    let x = turnBy (s .bench) (offering table i (onOffer p d)) in
+    let x = turnBy (s .bench) (given table s i) in
     record {
       bench = x .bench;
       turns = s .turns + 1;

@@ -1,10 +1,12 @@
 // The run of a file that reads well, in lent rows. It assumes that all rows are zero, and that the file was read once, since that takes a look at each turn.
 ghost use mathlib.Core.Path.{_≡_};
 ghost use Rattle.runfile.specs.Reading.{readOf, tableOf, turnsOf};
-ghost use Rattle.run.specs.Drive.{Blank, Ran};
-use crate::Drove;
+ghost use Rattle.run.specs.Drive.{Blank};
+ghost use Rattle.run.specs.Trace.{TracedTo};
+use crate::Trace;
 use crate::calls::link;
 use crate::drive::drive;
+use crate::rows::clear;
 use bench::Bench;
 use runfile::ReadAnswer;
 
@@ -39,17 +41,17 @@ pub(crate) fn ran(
     point: &mut [u32],
     list: &mut [u32],
     a: ReadAnswer,
-) -> Drove
+) -> Trace
     requires { ⌜ (readOf (now file) .refused ≡ 0) × (Blank (now next) (now head) (now latest) (now wait) (now own) (now told) (now point) (now list) × (a ≡ readOf (now file))) ⌝ }
-    ensures { λ r. ⌜ Ran (now (file .entry)) r (now (own .exit)) (now (told .exit)) (now (point .exit)) (now (list .exit)) ⌝ }
+    ensures { λ r. ⌜ TracedTo (now (file .entry)) (now (own .entry)) (now (told .entry)) (now (point .entry)) (now (list .entry)) r (now (own .exit)) (now (told .exit)) (now (point .exit)) (now (list .exit)) ⌝ }
 {
     let table = table_of(file, a);
     let turns = turns_of(file, a);
     let made = Bench::fresh(a.x, a.n);
-    let w = made.bench;
+    let fresh = made.bench;
     link(table, next, head);
-    drive(
-        w,
+    let d = drive(
+        fresh,
         table,
         turns,
         next,
@@ -60,5 +62,21 @@ pub(crate) fn ran(
         told,
         point,
         list,
-    )
+    );
+    let s = d.tally;
+    let w = d.bench;
+    let v = w.v;
+    clear(list, s.listed as usize);
+    Trace {
+        refused: 0,
+        k: 0,
+        calls: a.q,
+        turns: a.t as u32,
+        idle: s.idle,
+        begun: s.begun,
+        ended: s.ended,
+        listed: s.listed,
+        val: v.second,
+        seq: v.first,
+    }
 }

@@ -1,14 +1,11 @@
 // The trace of a file's run: its numbers, and own turns, answers, points and the list in rows that the caller lends.
 ghost use mathlib.Core.Path.{_≡_};
 ghost use mathlib.Core.Bool.{Bool};
-ghost use Rattle.runfile.specs.Reading.{readOf};
-ghost use Rattle.run.specs.Drive.{Blank};
 ghost use Rattle.run.specs.Trace.{noTrace, TracedTo};
 use crate::Trace;
 use crate::ran::ran;
 use crate::rows::clear;
 use crate::rows::clear_wide;
-use runfile::ReadAnswer;
 
 fn no_trace(refused: u32, k: usize) -> Trace
     ensures { λ r. ⌜ r ≡ noTrace refused k ⌝ }
@@ -24,41 +21,6 @@ fn no_trace(refused: u32, k: usize) -> Trace
         listed: 0,
         val: 0,
         seq: 0,
-    }
-}
-
-// The same with rows for the run's own use, all rows zero.
-fn traced_by(
-    file: &[u8],
-    next: &mut [u32],
-    head: &mut [u32],
-    latest: &mut [u32],
-    wait: &mut [u32],
-    own: &mut [u32],
-    told: &mut [u64],
-    point: &mut [u32],
-    list: &mut [u32],
-    a: ReadAnswer,
-) -> Trace
-    requires { ⌜ (readOf (now file) .refused ≡ 0) × (Blank (now next) (now head) (now latest) (now wait) (now own) (now told) (now point) (now list) × (a ≡ readOf (now file))) ⌝ }
-    ensures { λ r. ⌜ TracedTo (now (file .entry)) (now (own .entry)) (now (told .entry)) (now (point .entry)) (now (list .entry)) r (now (own .exit)) (now (told .exit)) (now (point .exit)) (now (list .exit)) ⌝ }
-{
-    let d = ran(file, next, head, latest, wait, own, told, point, list, a);
-    let s = d.tally;
-    let w = d.bench;
-    let v = w.v;
-    clear(list, s.listed as usize);
-    Trace {
-        refused: 0,
-        k: 0,
-        calls: a.q,
-        turns: a.t as u32,
-        idle: s.idle,
-        begun: s.begun,
-        ended: s.ended,
-        listed: s.listed,
-        val: v.second,
-        seq: v.first,
     }
 }
 
@@ -88,7 +50,7 @@ pub fn traced(
     let mut head = [0u32; 33];
     let mut latest = [0u32; 33];
     let mut wait = [0u32; 33];
-    traced_by(
+    ran(
         file,
         &mut next,
         &mut head,

@@ -1,5 +1,7 @@
--- A fresh bench, linked rows, and the loop.
+-- A fresh bench, linked rows, the loop, and what it leaves.
 use borrow.Author.Needs.{needs}
+use native.Mathlib.Omega.{arith}
+use lib.ListN.{length}
 use mathlib.Core.Path.{_≡_, _∙_, ap}
 use Rattle.bench.specs.Record.{blank}
 use Rattle.bench.specs.Turn.{freshOf}
@@ -7,6 +9,7 @@ use Rattle.runfile.specs.Reading.{readOf, tableOf}
 use Rattle.run.specs.Calls.{Linked}
 use Rattle.run.proofs.Files.{reads-well}
 use Rattle.run.proofs.Start.{is-fresh, starts, ran-through}
+use Rattle.run.proofs.Traces.{turns-counted, whole, blank-fits}
 use Rattle.run.proofs.ran.ran.Statement.{statement}
 use Rattle.run.proofs.ran.ran.Tie as tie
 
@@ -38,16 +41,24 @@ ran-spec =
     let l = c .before .before .before .before .before .before .before .before .before .before .before .before in
     let s = entry l in
     starts (s .args .file .now) (s .pre .0) _ _ _ _ _ _ _ _ _ _ (s .pre .1 .0) (l .link .kept .1 .0) (l .link .kept .1 .1 .0) (linked l) _ _ _ (made l) (l .before .before .before .before .before .before .table-of .ensures) (l .before .before .before .before .before .turns-of .ensures))
-    (λ c. c .before .before .before .before .before .before .before .before .before .before .before .before .before .before .before .before .before .before .before .before .before .before .before .before .before .before .before .link .kept .1 .0)
-    (λ c. c .before .before .before .before .before .before .before .before .before .before .before .before .before .before .drive .kept .1 .1 .1 .1 .0 ∙ c .before .before .before .before .before .before .before .before .before .before .before .before .before .before .before .before .before .before .before .before .before .before .before .before .before .before .before .link .kept .1 .1 .0)
-    (λ c. c .before .before .before .before .before .before .before .before .before .before .before .before .before .before .drive .kept .1 .1 .1 .1 .1 .0)
-    (λ c. c .before .before .before .before .before .before .before .before .before .before .before .before .before .before .drive .kept .1 .1 .1 .1 .1 .1 .0)
-    (λ c. c .before .before .before .before .before .before .before .before .before .before .before .before .before .before .drive .kept .1 .1 .1 .1 .1 .1 .1 .0)
-    (λ c. c .before .before .before .before .before .before .before .before .before .before .before .before .before .before .drive .kept .1 .1 .1 .1 .1 .1 .1 .1 .0)
-    (λ c. c .before .before .before .before .before .before .before .before .before .before .before .before .before .before .drive .kept .1 .1 .1 .1 .1 .1 .1 .1 .1 .0)
-    (λ c. c .before .before .before .before .before .before .before .before .before .before .before .before .before .before .drive .kept .1 .1 .1 .1 .1 .1 .1 .1 .1 .1 .0)
+    (λ c. search needs)
+    (λ c κs.
+    let d = c .before .before .before .before .before .before .before .before .before .before .before .before .before .before .before .before .before .before .before in
+    let s = c .before .before .before .before .before .before .before .before .before .before .before .before .before .before .before .before .before .before .before .before .before .before .before .before .before .before .before .before .before .before .before .before .before .before .before .before .before .before .before .before .before .before .before .before .before .before .before .before in omega (arith, d .drive .ensures .1, d .drive .kept .1 .1 .1 .1 .1 .1 .1 .1 .1 .1 .0 ∙ ap length (s .pre .1 .0 .lists)))
     (λ c.
-    let d = c .before .before .before .before .before .before .before .before .before .before .before .before .before .before in
-    let l = d .before .before .before .before .before .before .before .before .before .before .before .before .before in
+    let s = c .before .before .before .before .before .before .before .before .before .before .before .before .before .before .before .before .before .before .before .before .before .before .before .before .before .before .before .before .before .before .before .before .before .before .before .before .before .before .before .before .before .before .before .before .before .before .before .before .before .before .before .before in omega (arith, turns-counted (s .args .file .now) (s .args .a) (s .pre .1 .1), reads-well (s .args .file .now) (s .pre .0) .good .few))
+    (λ c. c .before .before .before .before .before .before .before .before .before .before .before .before .before .before .before .before .before .before .before .before .before .before .before .before .before .before .before .before .before .before .before .before .before .before .before .before .link .kept .1 .0)
+    (λ c. c .before .before .before .before .before .before .before .before .before .before .before .before .before .before .before .before .before .before .before .before .before .before .before .drive .kept .1 .1 .1 .1 .0 ∙ c .before .before .before .before .before .before .before .before .before .before .before .before .before .before .before .before .before .before .before .before .before .before .before .before .before .before .before .before .before .before .before .before .before .before .before .before .link .kept .1 .1 .0)
+    (λ c. c .before .before .before .before .before .before .before .before .before .before .before .before .before .before .before .before .before .before .before .before .before .before .before .drive .kept .1 .1 .1 .1 .1 .0)
+    (λ c. c .before .before .before .before .before .before .before .before .before .before .before .before .before .before .before .before .before .before .before .before .before .before .before .drive .kept .1 .1 .1 .1 .1 .1 .0)
+    (λ c. c .before .before .before .before .before .before .before .before .before .before .before .before .before .before .before .before .before .before .before .before .before .before .before .drive .kept .1 .1 .1 .1 .1 .1 .1 .0)
+    (λ c. c .before .before .before .before .before .before .before .before .before .before .before .before .before .before .before .before .before .before .before .before .before .before .before .drive .kept .1 .1 .1 .1 .1 .1 .1 .1 .0)
+    (λ c. c .before .before .before .before .before .before .before .before .before .before .before .before .before .before .before .before .before .before .before .before .before .before .before .drive .kept .1 .1 .1 .1 .1 .1 .1 .1 .1 .0)
+    (λ c. c .before .before .before .clear .kept .0 ∙ c .before .before .before .before .before .before .before .before .before .before .before .before .before .before .before .before .before .before .before .before .before .before .before .drive .kept .1 .1 .1 .1 .1 .1 .1 .1 .1 .1 .0)
+    (λ c.
+    let d = c .before .before .before .before .before .before .before .before .before .before .before .before .before .before .before .before .before .before .before .before .before .before .before in
+    let l = c .before .before .before .before .before .before .before .before .before .before .before .before .before .before .before .before .before .before .before .before .before .before .before .before .before .before .before .before .before .before .before .before .before .before .before .before in
     let s = entry l in
-    ran-through (s .args .file .now) (s .pre .0) _ _ _ _ _ _ _ _ _ _ (s .pre .1 .0) (l .link .kept .1 .0) (l .link .kept .1 .1 .0) (linked l) _ _ _ (made l) (l .before .before .before .before .before .before .table-of .ensures) (l .before .before .before .before .before .turns-of .ensures) _ _ _ _ _ _ _ (d .drive .ensures .0) (d .drive .ensures .1)))
+    whole (s .args .file .now) _ _ _ _ (d .drive .result)
+    (ran-through (s .args .file .now) (s .pre .0) _ _ _ _ _ _ _ _ _ _ (s .pre .1 .0) (l .link .kept .1 .0) (l .link .kept .1 .1 .0) (linked l) _ _ _ (made l) (l .before .before .before .before .before .before .table-of .ensures) (l .before .before .before .before .before .turns-of .ensures) _ _ _ _ _ _ _ (d .drive .ensures .0) (d .drive .ensures .1))
+    (d .drive .kept .1 .1 .1 .1 .1 .1 .1 .1 .1 .1 .0 ∙ ap length (s .pre .1 .0 .lists)) _ _ _ _ _ _ _ (s .pre .0) (blank-fits (s .pre .1 .0)) (ap (λ r. r .q) (s .pre .1 .1)) (turns-counted (s .args .file .now) (s .args .a) (s .pre .1 .1)) (c .before .before .before .clear .ensures)))

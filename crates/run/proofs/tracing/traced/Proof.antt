@@ -65,10 +65,10 @@ traced-spec =
     (λ c. search needs)
     (λ c. search needs)
     (λ c κs. (well (c .before .before .before .before .before .before .before .before .before .before .before .before .before .before .before .before .before .before .before .before .before .before .before .before), (cleared-rows (c .before .before .before .before .before .before .before .before .before .before), c .before .before .before .before .before .before .before .before .before .before .before .before .before .before .before .before .before .before .before .before .before .before .before .before .before .before .before .read .ensures)))
-    (λ c. c .before .before .before .before .before .before .before .before .before .before .before .before .traced-by .kept .1 .1 .1 .1 .1 .0 ∙ c .before .before .before .before .before .before .before .before .before .before .before .before .before .before .before .before .before .before .before .before .before .before .before .before .before .before .before .before .before .before .before .before .before .before .before .clear .kept .0)
-    (λ c. c .before .before .before .before .before .before .before .before .before .before .before .before .traced-by .kept .1 .1 .1 .1 .1 .1 .0 ∙ c .before .before .before .before .before .before .before .before .before .before .before .before .before .before .before .before .before .before .before .before .before .before .before .before .before .before .before .before .before .before .before .clear-wide .kept .0)
+    (λ c. c .before .before .before .before .before .before .before .before .before .before .before .before .ran .kept .1 .1 .1 .1 .1 .0 ∙ c .before .before .before .before .before .before .before .before .before .before .before .before .before .before .before .before .before .before .before .before .before .before .before .before .before .before .before .before .before .before .before .before .before .before .before .clear .kept .0)
+    (λ c. c .before .before .before .before .before .before .before .before .before .before .before .before .ran .kept .1 .1 .1 .1 .1 .1 .0 ∙ c .before .before .before .before .before .before .before .before .before .before .before .before .before .before .before .before .before .before .before .before .before .before .before .before .before .before .before .before .before .before .before .clear-wide .kept .0)
     (λ c. search needs)
     (λ c. search needs)
     (λ c.
     let f = c .before .before .before .before .before .before .before .before .before .before .before .before .before .before .before .before .before .before .before .before .before .before .before .before .before .before .before .before .before .before .before .before .before .before .before .before .before in
-    lent (entry f .args .file .now) _ _ _ _ _ _ _ _ _ _ _ _ _ (blank-fits (cleared-rows (c .before .before .before .before .before .before .before .before .before .before .before .before .before .before .before .before .before .before .before .before .before .before .before))) (fits f) (c .before .before .before .before .before .before .before .before .before .before .before .before .traced-by .ensures) (well f)))
+    lent (entry f .args .file .now) _ _ _ _ _ _ _ _ _ _ _ _ _ (blank-fits (cleared-rows (c .before .before .before .before .before .before .before .before .before .before .before .before .before .before .before .before .before .before .before .before .before .before .before))) (fits f) (c .before .before .before .before .before .before .before .before .before .before .before .before .ran .ensures) (well f)))
