@@ -4,5 +4,4 @@ pub mod Draft
 pub mod Scan
 pub mod Gather
 pub mod Parse
-pub mod Complaint
 pub mod Promise

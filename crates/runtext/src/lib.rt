@@ -1,17 +1,14 @@
 // The text form of a run file, docs/RUN-TEXT.md: a file that reads well is printed as text, and a text is turned into a file.
 // Its modules: printing; words and drafts (what the words of a text say, one at a time), scanning (where words and lines
-// end), gathering (what a text's calls and turns are) and parsing; messages (what was expected, in words) and promises
-// (what is proved of printing and parsing together).
+// end), gathering (what a text's calls and turns are) and parsing; promises (what is proved of printing and parsing together).
 mod drafts;
 mod gathering;
-mod messages;
 mod parsing;
 mod printing;
 mod promises;
 mod scanning;
 mod words;
 
-pub use messages::complain;
 pub use parsing::parse;
 pub use printing::print;
 pub use promises::answers_are_settled;

@@ -10,7 +10,7 @@ fn turned(text: &[u8], file: &mut [u8], line: &mut [u8]) {
         write_front(STDOUT_FILENO, file, r.len);
         return;
     }
-    let len = runtext::complain(r, line);
+    let len = messages::complain(r, line);
     write_front(STDERR_FILENO, line, len);
 }
 

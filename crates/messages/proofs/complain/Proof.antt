@@ -1,9 +1,9 @@
 use borrow.Author.Needs.{needs}
 use mathlib.Core.Path.{sym}
 use Rattle.script.proofs.Writes.{andThen}
-use Rattle.runtext.specs.Complaint.{complaintOf}
-use Rattle.runtext.proofs.messages.complain.Statement.{statement}
-use Rattle.runtext.proofs.messages.complain.Tie as tie
+use Rattle.messages.specs.Complaint.{complaintOf}
+use Rattle.messages.proofs.complain.Statement.{statement}
+use Rattle.messages.proofs.complain.Tie as tie
 
 pub complain-spec : {M : Type 1} → statement M
 unfolding complaintOf

@@ -1,14 +1,12 @@
 -- The line that tells a person why a text cannot be read. Assumes nothing.
-use mathlib.Core.Path.{_≡_}
 use mathlib.Core.Bool.{cond}
 use mathlib.Core.List.{List, [], _∷_, _++_}
-use Prim.Native.Nat.{ℕ, _≤_, _-_, min}
+use Prim.Native.Nat.{ℕ, min}
 use lib.Dec.{eqb}
-use lib.ListN.{length, take, drop}
 use Rattle.script.specs.Decimal.{decimal}
 use Rattle.script.specs.Quote.{quote}
 use Rattle.runtext.specs.declared.Parsed.{Parsed}
 use Rattle.runtext.specs.Letters.{newline}
 
 -- the words for what was expected, by its number
 unfoldable pub wordsFor : ℕ → List ℕ
@@ -23,17 +21,6 @@ wordsFor expected =
     (cond (eqb expected 8) (quote "a station")
     (cond (eqb expected 9) (quote "no more than 1024 calls")
     (cond (eqb expected 10) (quote "no more than 40960 turns") (quote "a longer buffer"))))))))))
-
--- the words for 1 to 11, one after another
-unfoldable pub allWords : List ℕ
-allWords =
-    wordsFor 1 ++ wordsFor 2 ++ wordsFor 3 ++ wordsFor 4 ++ wordsFor 5 ++ wordsFor 6 ++ wordsFor 7 ++ wordsFor 8 ++ wordsFor 9 ++ wordsFor 10 ++ wordsFor 11
-
--- the text stands among them, from one place to another
-pub record Among (text : List ℕ) (from to : ℕ) : Type 0 where
-  pub forward : from ≤ to
-  pub inside : to ≤ length allWords
-  pub same : take (to - from) (drop from allWords) ≡ text
 
 -- the line number is counted no further than the largest value
 unfoldable pub complaintOf : Parsed → List ℕ
