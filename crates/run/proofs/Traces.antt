@@ -2,11 +2,11 @@
 use mathlib.Core.Path.{_≡_, refl, _∙_, sym, ap}
 use mathlib.Core.Bool.{Bool, true, false, not, _&&_, _||_}
 use mathlib.Core.List.{List, _++_}
-use Prim.Native.Nat.{ℕ, _-_, _≤_}
+use Prim.Native.Nat.{ℕ, _-_}
 use native.Mathlib.Omega.{arith}
 use borrow.Author.Tests.{eq-eqb, ne-eqb, eqb-true}
 use lib.Dec.{eqb}
-use lib.ListN.{length, replicate, take}
+use lib.ListN.{length, replicate}
 use lib.Seq.{length-take-le}
 use Rattle.rules.proofs.Facts.{and-left, and-right}
 use Rattle.runfile.specs.declared.ReadAnswer.{ReadAnswer}

@@ -1,6 +1,5 @@
 // The trace of a file's run: its numbers, and own turns, answers, points and the list in rows that the caller lends.
 ghost use mathlib.Core.Path.{_≡_};
-ghost use mathlib.Core.Bool.{Bool};
 ghost use Rattle.run.specs.Trace.{noTrace, TracedTo};
 use crate::Trace;
 use crate::ran::ran;

@@ -7,11 +7,8 @@ use lib.Dec.{eqb}
 use lib.ListN.{length, getD, length-append}
 use Rattle.octets.specs.Bytes.{AllBytes}
 use Rattle.rules.proofs.Facts.{either-way}
-use Rattle.script.specs.Decimal.{decimal}
 use Rattle.script.proofs.Decimals.{length-decimal, length-decimal-32}
-use Rattle.runfile.specs.Layout.{callOf}
 use Rattle.runfile.specs.Reading.{readOf, tableOf}
-use Rattle.run.specs.declared.Trace.{Trace}
 use Rattle.run.specs.Run.{Run}
 use Rattle.run.specs.Calls.{StationsWithin}
 use Rattle.run.specs.Drive.{runOfFile}

@@ -1,7 +1,7 @@
 -- Document 01, "Report": a line for each listed call, and a last line. One space between fields, one newline after each line, decimal without leading zeros.
 -- Assumes nothing.
 use mathlib.Core.Bool.{cond, not}
-use mathlib.Core.List.{List, [], _∷_, _++_}
+use mathlib.Core.List.{List, [], _++_}
 use Prim.Native.Nat.{ℕ, zero, suc, _-_, _≤_}
 use lib.Dec.{eqb}
 use lib.ListN.{getD}
