@@ -3,6 +3,7 @@ pub mod Points
 pub mod Books
 pub mod Steps
 pub mod After
+pub mod Sizes
 pub mod Loop
 pub mod Files
 pub mod Start

@@ -15,8 +15,9 @@ use Rattle.runfile.proofs.Answers.{inside}
 use Rattle.runfile.proofs.Trailers.{length-part}
 use Rattle.run.specs.declared.Trace.{Trace}
 use Rattle.run.specs.declared.Drove.{Drove}
-use Rattle.run.specs.Drive.{runOfFile, Blank, Ran}
+use Rattle.run.specs.Drive.{runOfFile, Blank}
 use Rattle.run.specs.Trace.{places, cleared, padded, fit, noTrace, traceBy, traceOf, TracedTo}
+use Rattle.run.proofs.Start.{Ran}
 
 -- the numbers that a run of so many calls and turns leaves
 abbrev pub drawn : Drove → ℕ → ℕ → Trace
@@ -30,8 +31,8 @@ drawn d calls turns =
       begun = d .tally .begun;
       ended = d .tally .ended;
       listed = d .tally .listed;
-      val = d .bench .v .second;
-      seq = d .bench .v .first;
+      val = d .v .second;
+      seq = d .v .first;
     }
 
 module _ (file own told point list : List ℕ) (d : Drove) (ran : Ran file d own told point list) (long : length list ≡ places) where
@@ -49,8 +50,8 @@ module _ (file own told point list : List ℕ) (d : Drove) (ran : Ran file d own
         begun = ran .begun i;
         ended = ran .ended i;
         listed = listed i;
-        val = ran .bench i .v .second;
-        seq = ran .bench i .v .first;
+        val = ran .v i .second;
+        seq = ran .v i .first;
       }
 
   in-row : cleared list (d .tally .listed) ≡ padded (runOfFile file .book .list)

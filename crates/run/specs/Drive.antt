@@ -4,7 +4,7 @@ use mathlib.Core.Logic.{_⊎_}
 use mathlib.Core.Bool.{true, false}
 use mathlib.Core.List.{List}
 use Prim.Native.Nat.{ℕ, _<_, _≤_}
-use lib.ListN.{length, getD, replicate, take}
+use lib.ListN.{length, getD, replicate}
 use Rattle.runfile.specs.Layout.{records, callOf}
 use Rattle.runfile.specs.Reading.{readOf, tableOf, turnsOf}
 use Rattle.bench.specs.declared.Bench.{Bench}
@@ -49,13 +49,17 @@ pub record Ready (w : Bench) (table turns next head latest wait own told point l
   pub linked : Linked table next head 0
   pub rows : Rows w table next head latest wait own told point list noTally
 
--- the bench, the counts and the rows are those of the run
-unfoldable pub Driven : Bench → List ℕ → List ℕ → List ℕ → List ℕ → List ℕ → List ℕ → List ℕ → List ℕ → Drove → List ℕ → List ℕ → List ℕ → List ℕ → List ℕ → List ℕ → Type 0
-Driven w table turns head latest own told point list r head′ latest′ own′ told′ point′ list′ =
-    record { bench = r .bench; turns = length turns; book = bookOf head′ latest′ own′ told′ point′ list′ (r .tally) }
-    ≡ runFrom table (record { bench = w; turns = 0; book = bookOf head latest own told point list noTally }) turns
+-- the run before its first turn
+abbrev pub starting : Bench → List ℕ → List ℕ → List ℕ → List ℕ → List ℕ → List ℕ → Run
+starting w head latest own told point list = record { bench = w; turns = 0; book = bookOf head latest own told point list noTally }
 
--- all rows are zero
+-- V, the counts and the rows are those of the run
+pub record Driven (start : Run) (table turns : List ℕ) (r : Drove) (head latest own told point list : List ℕ) : Type 0 where
+  pub v : r .v ≡ runFrom table start turns .bench .v
+  pub count : length turns ≡ runFrom table start turns .turns
+  pub book : bookOf head latest own told point list (r .tally) ≡ runFrom table start turns .book
+
+-- all rows are zero, but for the list, which has its length
 pub record Blank (next head latest wait own told point list : List ℕ) : Type 0 where
   pub nexts : next ≡ replicate 1025 0
   pub heads : head ≡ replicate 33 0
@@ -64,21 +68,8 @@ pub record Blank (next head latest wait own told point list : List ℕ) : Type 0
   pub owns : own ≡ replicate 1025 0
   pub tolds : told ≡ replicate 1025 0
   pub points : point ≡ replicate 1025 0
-  pub lists : list ≡ replicate 1025 0
+  pub lists : length list ≡ 1025
 
 -- the run of a file that reads well
 abbrev pub runOfFile : List ℕ → Run
 runOfFile file = runOf (readOf file .x) (readOf file .n) (tableOf file) (turnsOf file)
-
--- what is left for its report: the bench, the counts and the rows by call
-pub record Ran (file : List ℕ) (r : Drove) (own told point list : List ℕ) : Type 0 where
-  pub bench : r .bench ≡ runOfFile file .bench
-  pub owns : own ≡ runOfFile file .book .own
-  pub tolds : told ≡ runOfFile file .book .told
-  pub points : point ≡ runOfFile file .book .point
-  pub lists : take (r .tally .listed) list ≡ runOfFile file .book .list
-  pub idle : r .tally .idle ≡ runOfFile file .book .idle
-  pub begun : r .tally .begun ≡ runOfFile file .book .begun
-  pub ended : r .tally .ended ≡ runOfFile file .book .ended
-  pub turns : length (turnsOf file) ≡ runOfFile file .turns
-  pub room : r .tally .listed ≤ 1025

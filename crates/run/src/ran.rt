@@ -1,4 +1,4 @@
-// The run of a file that reads well, in lent rows. It assumes that all rows are zero, and that the file was read once, since that takes a look at each turn.
+// The run of a file that reads well, in lent rows. It assumes that all rows but the list are zero, and that the file was read once, since that takes a look at each turn.
 ghost use mathlib.Core.Path.{_≡_};
 ghost use Rattle.runfile.specs.Reading.{readOf, tableOf, turnsOf};
 ghost use Rattle.run.specs.Drive.{Blank};
@@ -64,8 +64,7 @@ pub(crate) fn ran(
         list,
     );
     let s = d.tally;
-    let w = d.bench;
-    let v = w.v;
+    let v = d.v;
     clear(list, s.listed as usize);
     Trace {
         refused: 0,

@@ -44,7 +44,6 @@ pub fn traced(
     clear(own, 0);
     clear_wide(told);
     clear(point, 0);
-    clear(list, 0);
     let mut next = [0u32; 1025];
     let mut head = [0u32; 33];
     let mut latest = [0u32; 33];

@@ -1,4 +1,3 @@
-use borrow.Author.Needs.{needs}
 use mathlib.Core.Path.{_≡_, _∙_, sym, ap}
 use mathlib.Core.Bool.{true, false}
 use lib.Dec.{eqb}
@@ -9,7 +8,7 @@ use Rattle.run.proofs.calls.errand.Tie as tie
 pub errand-spec : {M : Type 1} → statement M
 errand-spec =
     tie.close
-    (tie.spec (λ c κs. search needs)
+    (tie.spec (λ c κs. tt)
     (λ c.
     let q : eqb (num (c .before .before .args .t .place)) 0 ≡ true = ap (λ k. eqb k 0) (sym (c .before .number .ensures)) ∙ c .if1 .taken in
     simp q)

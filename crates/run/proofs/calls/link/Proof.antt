@@ -32,7 +32,7 @@ link-spec =
       omega arith,
       (ap length (s .pre .0), (ap length e, rw e (unlinked (s .args .table .now) (s .args .next .now)))),
     ))
-    (λ c κs. search needs)
+    (λ c κs. tt)
     (λ c. search needs)
     (λ c. omega (arith, station-within (c .before)))
     (λ c. omega (arith, station-within (c .before .before)))

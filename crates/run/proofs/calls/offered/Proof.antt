@@ -11,7 +11,7 @@ use Rattle.run.proofs.calls.offered.Tie as tie
 pub offered-spec : {M : Type 1} → statement M
 offered-spec =
     tie.close
-    (tie.spec (λ c. search needs) (λ c κs. search needs)
+    (tie.spec (λ c. search needs) (λ c κs. tt)
     (λ c.
     let t = c .before in
     let e = t .before .before .args .e in

@@ -10,7 +10,7 @@ use Rattle.run.proofs.calls.waiting.Tie as tie
 pub waiting-spec : {M : Type 1} → statement M
 waiting-spec =
     tie.close
-    (tie.spec (λ c κs. search needs)
+    (tie.spec (λ c κs. tt)
     (λ c.
     let q : ltb (num (c .before .before .args .t .place)) 11 ≡ true = rw (c .before .number .ensures) at (lt-ltb (c .before .number .result) 11 (c .if1 .taken)) in
     simp q)

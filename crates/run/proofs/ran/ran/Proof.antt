@@ -1,7 +1,6 @@
 -- A fresh bench, linked rows, the loop, and what it leaves.
 use borrow.Author.Needs.{needs}
 use native.Mathlib.Omega.{arith}
-use lib.ListN.{length}
 use mathlib.Core.Path.{_≡_, _∙_, ap}
 use Rattle.bench.specs.Record.{blank}
 use Rattle.bench.specs.Turn.{freshOf}
@@ -32,7 +31,7 @@ ran-spec =
     (tie.spec
     (λ c κs. c .before .before .before .before .before .before .before .before .before .pre .1 .1)
     (λ c κs. c .before .before .before .before .before .before .before .before .before .before .pre .1 .1)
-    (λ c κs. search needs)
+    (λ c κs. tt)
     (λ c κs.
     let s = c .before .before .before .before .before .before .before .before .before .before .before .before .before .before .before in
     let w = reads-well (s .args .file .now) (s .pre .0) in
@@ -43,22 +42,22 @@ ran-spec =
     starts (s .args .file .now) (s .pre .0) _ _ _ _ _ _ _ _ _ _ (s .pre .1 .0) (l .link .kept .1 .0) (l .link .kept .1 .1 .0) (linked l) _ _ _ (made l) (l .before .before .before .before .before .before .table-of .ensures) (l .before .before .before .before .before .turns-of .ensures))
     (λ c. search needs)
     (λ c κs.
-    let d = c .before .before .before .before .before .before .before .before .before .before .before .before .before .before .before .before .before .before .before in
-    let s = c .before .before .before .before .before .before .before .before .before .before .before .before .before .before .before .before .before .before .before .before .before .before .before .before .before .before .before .before .before .before .before .before .before .before .before .before .before .before .before .before .before .before .before .before .before .before .before .before in omega (arith, d .drive .ensures .1, d .drive .kept .1 .1 .1 .1 .1 .1 .1 .1 .1 .1 .0 ∙ ap length (s .pre .1 .0 .lists)))
+    let d = c .before .before .before .before .before .before .before .before .before .before .before .before .before .before .before .before .before .before in
+    let s = c .before .before .before .before .before .before .before .before .before .before .before .before .before .before .before .before .before .before .before .before .before .before .before .before .before .before .before .before .before .before .before .before .before .before .before .before .before .before .before .before .before .before .before .before .before .before .before in omega (arith, d .drive .ensures .1, d .drive .kept .1 .1 .1 .1 .1 .1 .1 .1 .1 .1 .0 ∙ s .pre .1 .0 .lists))
     (λ c.
-    let s = c .before .before .before .before .before .before .before .before .before .before .before .before .before .before .before .before .before .before .before .before .before .before .before .before .before .before .before .before .before .before .before .before .before .before .before .before .before .before .before .before .before .before .before .before .before .before .before .before .before .before .before .before in omega (arith, turns-counted (s .args .file .now) (s .args .a) (s .pre .1 .1), reads-well (s .args .file .now) (s .pre .0) .good .few))
-    (λ c. c .before .before .before .before .before .before .before .before .before .before .before .before .before .before .before .before .before .before .before .before .before .before .before .before .before .before .before .before .before .before .before .before .before .before .before .before .link .kept .1 .0)
-    (λ c. c .before .before .before .before .before .before .before .before .before .before .before .before .before .before .before .before .before .before .before .before .before .before .before .drive .kept .1 .1 .1 .1 .0 ∙ c .before .before .before .before .before .before .before .before .before .before .before .before .before .before .before .before .before .before .before .before .before .before .before .before .before .before .before .before .before .before .before .before .before .before .before .before .link .kept .1 .1 .0)
-    (λ c. c .before .before .before .before .before .before .before .before .before .before .before .before .before .before .before .before .before .before .before .before .before .before .before .drive .kept .1 .1 .1 .1 .1 .0)
-    (λ c. c .before .before .before .before .before .before .before .before .before .before .before .before .before .before .before .before .before .before .before .before .before .before .before .drive .kept .1 .1 .1 .1 .1 .1 .0)
-    (λ c. c .before .before .before .before .before .before .before .before .before .before .before .before .before .before .before .before .before .before .before .before .before .before .before .drive .kept .1 .1 .1 .1 .1 .1 .1 .0)
-    (λ c. c .before .before .before .before .before .before .before .before .before .before .before .before .before .before .before .before .before .before .before .before .before .before .before .drive .kept .1 .1 .1 .1 .1 .1 .1 .1 .0)
-    (λ c. c .before .before .before .before .before .before .before .before .before .before .before .before .before .before .before .before .before .before .before .before .before .before .before .drive .kept .1 .1 .1 .1 .1 .1 .1 .1 .1 .0)
-    (λ c. c .before .before .before .clear .kept .0 ∙ c .before .before .before .before .before .before .before .before .before .before .before .before .before .before .before .before .before .before .before .before .before .before .before .drive .kept .1 .1 .1 .1 .1 .1 .1 .1 .1 .1 .0)
+    let s = c .before .before .before .before .before .before .before .before .before .before .before .before .before .before .before .before .before .before .before .before .before .before .before .before .before .before .before .before .before .before .before .before .before .before .before .before .before .before .before .before .before .before .before .before .before .before .before .before .before .before .before in omega (arith, turns-counted (s .args .file .now) (s .args .a) (s .pre .1 .1), reads-well (s .args .file .now) (s .pre .0) .good .few))
+    (λ c. c .before .before .before .before .before .before .before .before .before .before .before .before .before .before .before .before .before .before .before .before .before .before .before .before .before .before .before .before .before .before .before .before .before .before .before .link .kept .1 .0)
+    (λ c. c .before .before .before .before .before .before .before .before .before .before .before .before .before .before .before .before .before .before .before .before .before .before .drive .kept .1 .1 .1 .1 .0 ∙ c .before .before .before .before .before .before .before .before .before .before .before .before .before .before .before .before .before .before .before .before .before .before .before .before .before .before .before .before .before .before .before .before .before .before .before .link .kept .1 .1 .0)
+    (λ c. c .before .before .before .before .before .before .before .before .before .before .before .before .before .before .before .before .before .before .before .before .before .before .drive .kept .1 .1 .1 .1 .1 .0)
+    (λ c. c .before .before .before .before .before .before .before .before .before .before .before .before .before .before .before .before .before .before .before .before .before .before .drive .kept .1 .1 .1 .1 .1 .1 .0)
+    (λ c. c .before .before .before .before .before .before .before .before .before .before .before .before .before .before .before .before .before .before .before .before .before .before .drive .kept .1 .1 .1 .1 .1 .1 .1 .0)
+    (λ c. c .before .before .before .before .before .before .before .before .before .before .before .before .before .before .before .before .before .before .before .before .before .before .drive .kept .1 .1 .1 .1 .1 .1 .1 .1 .0)
+    (λ c. c .before .before .before .before .before .before .before .before .before .before .before .before .before .before .before .before .before .before .before .before .before .before .drive .kept .1 .1 .1 .1 .1 .1 .1 .1 .1 .0)
+    (λ c. c .before .before .before .clear .kept .0 ∙ c .before .before .before .before .before .before .before .before .before .before .before .before .before .before .before .before .before .before .before .before .before .before .drive .kept .1 .1 .1 .1 .1 .1 .1 .1 .1 .1 .0)
     (λ c.
-    let d = c .before .before .before .before .before .before .before .before .before .before .before .before .before .before .before .before .before .before .before .before .before .before .before in
-    let l = c .before .before .before .before .before .before .before .before .before .before .before .before .before .before .before .before .before .before .before .before .before .before .before .before .before .before .before .before .before .before .before .before .before .before .before .before in
+    let d = c .before .before .before .before .before .before .before .before .before .before .before .before .before .before .before .before .before .before .before .before .before .before in
+    let l = c .before .before .before .before .before .before .before .before .before .before .before .before .before .before .before .before .before .before .before .before .before .before .before .before .before .before .before .before .before .before .before .before .before .before .before in
     let s = entry l in
     whole (s .args .file .now) _ _ _ _ (d .drive .result)
     (ran-through (s .args .file .now) (s .pre .0) _ _ _ _ _ _ _ _ _ _ (s .pre .1 .0) (l .link .kept .1 .0) (l .link .kept .1 .1 .0) (linked l) _ _ _ (made l) (l .before .before .before .before .before .before .table-of .ensures) (l .before .before .before .before .before .turns-of .ensures) _ _ _ _ _ _ _ (d .drive .ensures .0) (d .drive .ensures .1))
-    (d .drive .kept .1 .1 .1 .1 .1 .1 .1 .1 .1 .1 .0 ∙ ap length (s .pre .1 .0 .lists)) _ _ _ _ _ _ _ (s .pre .0) (blank-fits (s .pre .1 .0)) (ap (λ r. r .q) (s .pre .1 .1)) (turns-counted (s .args .file .now) (s .args .a) (s .pre .1 .1)) (c .before .before .before .clear .ensures)))
+    (d .drive .kept .1 .1 .1 .1 .1 .1 .1 .1 .1 .1 .0 ∙ s .pre .1 .0 .lists) _ _ _ _ _ _ _ (s .pre .0) (blank-fits (s .pre .1 .0)) (ap (λ r. r .q) (s .pre .1 .1)) (turns-counted (s .args .file .now) (s .args .a) (s .pre .1 .1)) (c .before .before .before .clear .ensures)))

@@ -21,10 +21,10 @@ fits : (c : tie.Else2) → fit (entry c .args .own .now) (entry c .args .told .n
 fits c = tested (entry c .args .own .now) (entry c .args .told .now) (entry c .args .point .now) (entry c .args .list .now) false (c .if2 .left)
 
 -- the rows of the run, and those that were lent once they are cleared
-cleared-rows : (c : tie.After-clear3)
-    → Blank (replicate 1025 0) (replicate 33 0) (replicate 33 0) (replicate 33 0) (c .before .before .before .before .before .before .before .before .before .before .before .before .clear .last .0) (c .before .before .before .before .before .before .before .before .clear-wide .last .0) (c .before .before .before .before .clear2 .last .0) (c .clear3 .last .0)
+cleared-rows : (c : tie.After-clear2)
+    → Blank (replicate 1025 0) (replicate 33 0) (replicate 33 0) (replicate 33 0) (c .before .before .before .before .before .before .before .before .clear .last .0) (c .before .before .before .before .clear-wide .last .0) (c .clear2 .last .0) (entry (c .before .before .before .before .before .before .before .before .before .before) .args .list .now)
 cleared-rows c =
-    let f = c .before .before .before .before .before .before .before .before .before .before .before .before .before .before in
+    let f = c .before .before .before .before .before .before .before .before .before .before in
     let s = entry f in
     let l = long-each (s .args .own .now) (s .args .told .now) (s .args .point .now) (s .args .list .now) (fits f) in
     record {
@@ -32,24 +32,24 @@ cleared-rows c =
       heads = refl;
       latests = refl;
       waits = refl;
-      owns = zeros (s .args .own .now) _ (l .owns) (c .before .before .before .before .before .before .before .before .before .before .before .before .clear .ensures);
-      tolds = zeros (s .args .told .now) _ (l .tolds) (c .before .before .before .before .before .before .before .before .clear-wide .ensures);
-      points = zeros (s .args .point .now) _ (l .points) (c .before .before .before .before .clear2 .ensures);
-      lists = zeros (s .args .list .now) _ (l .lists) (c .clear3 .ensures);
+      owns = zeros (s .args .own .now) _ (l .owns) (c .before .before .before .before .before .before .before .before .clear .ensures);
+      tolds = zeros (s .args .told .now) _ (l .tolds) (c .before .before .before .before .clear-wide .ensures);
+      points = zeros (s .args .point .now) _ (l .points) (c .clear2 .ensures);
+      lists = l .lists;
     }
 
 pub traced-spec : {M : Type 1} → statement M
 traced-spec =
     tie.close
     (tie.spec
-    (λ c κs. search needs)
-    (λ c κs. search needs)
+    (λ c κs. tt)
+    (λ c κs. tt)
     (λ c.
     let t = c .before in
     let a = c .before .before .before in
     let s = c .before .before .before .before .before .before .before .before .before in
     refused (s .args .file .now) _ _ _ _ (a .read .result) _ (a .read .ensures) (t .if1 .taken) (c .no-trace .ensures))
-    (λ c κs. search needs)
+    (λ c κs. tt)
     (λ c.
     let t = c .before in
     let e = c .before .before in
@@ -57,18 +57,17 @@ traced-spec =
     let s = c .before .before .before .before .before .before .before .before .before .before in
     unfit (s .args .file .now) _ _ _ _ _ (sym (ap (λ r. r .refused) (a .read .ensures)) ∙ e .if1 .left) (tested (s .args .own .now) (s .args .told .now) (s .args .point .now) (s .args .list .now) true (t .if2 .taken)) (c .no-trace2 .ensures))
     (λ c κs. search needs)
+    (λ c κs. tt)
     (λ c κs. search needs)
-    (λ c κs. search needs)
-    (λ c κs. search needs)
     (λ c. search needs)
     (λ c. search needs)
     (λ c. search needs)
     (λ c. search needs)
-    (λ c κs. (well (c .before .before .before .before .before .before .before .before .before .before .before .before .before .before .before .before .before .before .before .before .before .before .before .before), (cleared-rows (c .before .before .before .before .before .before .before .before .before .before), c .before .before .before .before .before .before .before .before .before .before .before .before .before .before .before .before .before .before .before .before .before .before .before .before .before .before .before .read .ensures)))
-    (λ c. c .before .before .before .before .before .before .before .before .before .before .before .before .ran .kept .1 .1 .1 .1 .1 .0 ∙ c .before .before .before .before .before .before .before .before .before .before .before .before .before .before .before .before .before .before .before .before .before .before .before .before .before .before .before .before .before .before .before .before .before .before .before .clear .kept .0)
-    (λ c. c .before .before .before .before .before .before .before .before .before .before .before .before .ran .kept .1 .1 .1 .1 .1 .1 .0 ∙ c .before .before .before .before .before .before .before .before .before .before .before .before .before .before .before .before .before .before .before .before .before .before .before .before .before .before .before .before .before .before .before .clear-wide .kept .0)
+    (λ c κs. (well (c .before .before .before .before .before .before .before .before .before .before .before .before .before .before .before .before .before .before .before .before), (cleared-rows (c .before .before .before .before .before .before .before .before .before .before), c .before .before .before .before .before .before .before .before .before .before .before .before .before .before .before .before .before .before .before .before .before .before .before .read .ensures)))
+    (λ c. c .before .before .before .before .before .before .before .before .before .before .before .before .ran .kept .1 .1 .1 .1 .1 .0 ∙ c .before .before .before .before .before .before .before .before .before .before .before .before .before .before .before .before .before .before .before .before .before .before .before .before .before .before .before .before .before .before .before .clear .kept .0)
+    (λ c. c .before .before .before .before .before .before .before .before .before .before .before .before .ran .kept .1 .1 .1 .1 .1 .1 .0 ∙ c .before .before .before .before .before .before .before .before .before .before .before .before .before .before .before .before .before .before .before .before .before .before .before .before .before .before .before .clear-wide .kept .0)
     (λ c. search needs)
     (λ c. search needs)
     (λ c.
-    let f = c .before .before .before .before .before .before .before .before .before .before .before .before .before .before .before .before .before .before .before .before .before .before .before .before .before .before .before .before .before .before .before .before .before .before .before .before .before in
+    let f = c .before .before .before .before .before .before .before .before .before .before .before .before .before .before .before .before .before .before .before .before .before .before .before .before .before .before .before .before .before .before .before .before .before in
     lent (entry f .args .file .now) _ _ _ _ _ _ _ _ _ _ _ _ _ (blank-fits (cleared-rows (c .before .before .before .before .before .before .before .before .before .before .before .before .before .before .before .before .before .before .before .before .before .before .before))) (fits f) (c .before .before .before .before .before .before .before .before .before .before .before .before .ran .ensures) (well f)))

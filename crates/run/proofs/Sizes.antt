@@ -1,0 +1,26 @@
+-- The loop's numbers fit their words, and its rows have a place for each. Said of numbers alone, since the prover reads all that a state holds where it is said of one. Assumes nothing.
+use mathlib.Core.Path.{_≡_}
+use Prim.Native.Nat.{ℕ, _+_, _*_, _-_, _<_, _≤_}
+use native.Mathlib.Omega.{arith}
+use mir.Syntax.{w32, w64}
+use mir.Val.{Fits}
+
+-- a station's number, and where its entry stands in a row of numbers, of registers or of stations
+pub station-fits : {i : ℕ} → i < 33 → (Fits w64 i × Fits w64 (i * 4)) × (Fits w64 (i * 8) × Fits w64 (i * 48))
+station-fits h = ((omega arith, omega arith), (omega arith, omega arith))
+
+-- a call's number, and where its answer stands
+pub call-fits : {c : ℕ} → c < 1025 → Fits w64 c × Fits w64 (c * 8)
+call-fits h = (omega arith, omega arith)
+
+-- a turn's number
+pub turn-fits : {k m : ℕ} → k < m → m ≤ 40960 → Fits w64 (k + 1) × Fits w32 (k + 1)
+turn-fits h few = (omega arith, omega arith)
+
+-- a row of n places has one for i
+pub has-place : {i m : ℕ} (n : ℕ) → i < n → m ≡ n → i < m
+has-place n h e = omega arith
+
+-- after a turn there is one less left
+pub one-less : {k m : ℕ} → k < m → m - (k + 1) < m - k
+one-less h = omega arith

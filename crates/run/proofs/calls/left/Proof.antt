@@ -1,8 +1,0 @@
-use borrow.Author.Needs.{needs}
-use Rattle.run.proofs.calls.left.Statement.{statement}
-use Rattle.run.proofs.calls.left.Tie as tie
-
-pub left-spec : {M : Type 1} → statement M
-left-spec =
-    tie.close
-    (tie.spec (λ c κs. search needs) (λ c. simp (c .before .number .ensures)))
