@@ -82,9 +82,6 @@ small-numbers file bytes well =
     let count = counted (readOf file .x) (readOf file .n) (tableOf file) (turnsOf file) in
     let few = r .good .few in
     record {
-      owns = b .owns;
-      tolds = b .tolds;
-      points = b .rows .points;
       own = b .own;
       told = b .told;
       point = λ c. omega (arith, b .rows .point c);

@@ -11,9 +11,6 @@ use Rattle.limits.specs.Within.{valueLimit}
 
 -- by call c: its own turns, its answer plus 1 and the turn of its point; the list of calls that have one; the counts; V
 pub record Small (r : Run) : Type 0 where
-  pub owns : length (r .book .own) ≡ 1025
-  pub tolds : length (r .book .told) ≡ 1025
-  pub points : length (r .book .point) ≡ 1025
   pub own : (c : ℕ) → getD (r .book .own) c 0 ≤ 10
   pub told : (c : ℕ) → getD (r .book .told) c 0 ≤ valueLimit
   pub point : (c : ℕ) → getD (r .book .point) c 0 ≤ 40960

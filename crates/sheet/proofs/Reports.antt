@@ -5,7 +5,7 @@ use mathlib.Core.List.{List, _++_}
 use Prim.Native.Nat.{ℕ, _≤_}
 use native.Mathlib.Omega.{arith}
 use borrow.Author.Tests.{eq-eqb, eqb-true, leb-true, leb-false, lt-ltb, le-ltb}
-use lib.Dec.{leb, eqb}
+use lib.Dec.{leb, ltb, eqb}
 use lib.ListN.{length}
 use Rattle.octets.specs.Bytes.{AllBytes}
 use Rattle.rules.proofs.Facts.{either-way, and-both}
@@ -18,8 +18,9 @@ use Rattle.run.specs.Drive.{runOfFile}
 use Rattle.run.specs.Trace.{padded, fit, traceBy, traceOf, lentRow, TracedTo}
 use Rattle.limits.specs.Small.{SmallNumbers}
 use Rattle.limits.proofs.Promised.{small-numbers}
+use Rattle.sheet.specs.declared.Reported.{Reported}
 use Rattle.sheet.specs.Sheet.{Answers, lastText, sheetText}
-use Rattle.sheet.specs.Report.{reportText, reported, reportOf, reportedOn, ReportedTo, AlwaysEnough, ReportSettled}
+use Rattle.sheet.specs.Report.{reportText, reported, reportOf, reportedOn, LaidOn, ReportedTo, AlwaysEnough, ReportSettled}
 use Rattle.sheet.proofs.Listing.{lines-padded}
 use Rattle.sheet.proofs.Lengths.{length-report}
 
@@ -35,6 +36,20 @@ from-front file = by-answer file (λ r. r .start ≡ 0) (λ r k n. refl) (λ g. 
 -- a sheet that is measured on a buffer of one byte
 pub measured : {a b : List ℕ} {j : ℕ} (text : List ℕ) (room : ℕ) → Wrote a b 0 j text → length text ≤ 40960 → leb j room ≡ leb (length text) room
 measured text room w h = ap (λ k. leb k room) (size w (omega arith))
+
+-- a text that has room is in front of the rest of the buffer, and one that has none is not written
+pub has-none : (text out : List ℕ) (fits : Bool) → fits ≡ leb (length text) (length out) → fits ≡ false → LaidOn text out (reported 14 0 0) out
+has-none text out fits tested none =
+    let k = lt-ltb (length out) (length text) (leb-false (length text) (length out) (sym tested ∙ none)) in
+    record { answered = simp k; left = simp k }
+
+pub has-some : (text out : List ℕ) (fits : Bool) {after : List ℕ} {j : ℕ} → fits ≡ leb (length text) (length out) → fits ≡ true → length text ≤ 40960
+    → Wrote out after 0 j text → LaidOn text out (reported 0 0 j) after
+has-some text out fits tested all few v =
+    let l = leb-true (length text) (length out) (sym tested ∙ all) in
+    let k = le-ltb (length out) (length text) l in
+    let m = size v (omega arith) in
+    record { answered = simp (k, m); left = simp k (in-front v l) }
 
 module _ (file out own told point list own′ told′ point′ list′ : List ℕ) (t : Trace) (f : fit own told point list ≡ true)
     (e : TracedTo file own told point list t own′ told′ point′ list′) where
@@ -86,24 +101,15 @@ module _ (file out own told point list own′ told′ point′ list′ : List �
         pub at-most : length (sheetText t table own′ told′ point′ list′) ≤ 40960
         at-most = rw same-text (length-report file h well)
 
-        pub short : (fits : Bool) → fits ≡ leb (length (sheetText t table own′ told′ point′ list′)) (length out) → fits ≡ false
-            → ReportedTo file out (reported 14 0 0) out
+        -- the sheet in the buffer is the file's report
+        pub the-report : {r : Reported} {after : List ℕ} → LaidOn (sheetText t table own′ told′ point′ list′) out r after → ReportedTo file out r after
         unfolding reportOf reportedOn
-        short fits tested none =
+        the-report v =
             let b = eq-eqb (readOf file .refused) 0 well in
-            let l = leb-false (length (reportText file)) (length out) (ap (λ l. leb (length l) (length out)) (sym same-text) ∙ sym tested ∙ none) in
-            let k = lt-ltb (length out) (length (reportText file)) l in
-            record { answered = simp (b, k); left = simp (b, k) }
-
-        pub written : (fits : Bool) → fits ≡ leb (length (sheetText t table own′ told′ point′ list′)) (length out) → fits ≡ true
-            → {after : List ℕ} {j : ℕ} → Wrote out after 0 j (sheetText t table own′ told′ point′ list′) → ReportedTo file out (reported 0 0 j) after
-        unfolding reportOf reportedOn
-        written fits tested all v =
-            let b = eq-eqb (readOf file .refused) 0 well in
-            let l = leb-true (length (reportText file)) (length out) (ap (λ l. leb (length l) (length out)) (sym same-text) ∙ sym tested ∙ all) in
-            let k = le-ltb (length out) (length (reportText file)) l in
-            let m = size (rw same-text at v) (omega (arith, length-report file h well)) in
-            record { answered = simp (b, k, m); left = simp (b, k) (in-front (rw same-text at v) l) }
+            let l = rw same-text at v in
+            either-way (ltb (length out) (length (reportText file)))
+            (λ k. record { answered = l .answered ∙ rw b refl; left = l .left ∙ rw (b, k) refl })
+            (λ k. record { answered = l .answered ∙ rw b refl; left = l .left ∙ rw (b, k) refl })
 
 pub always-enough : AlwaysEnough
 unfolding AlwaysEnough reportOf

@@ -5,7 +5,7 @@ ghost use lib.Dec.{leb};
 ghost use lib.ListN.{length};
 ghost use Rattle.runfile.specs.Reading.{readOf, tableOf};
 ghost use Rattle.sheet.specs.Sheet.{Answers, sheetText};
-ghost use Rattle.sheet.specs.Report.{ReportedTo, AlwaysEnough, ReportSettled};
+ghost use Rattle.sheet.specs.Report.{LaidOn, ReportedTo, AlwaysEnough, ReportSettled};
 use crate::Reported;
 use crate::lines::put_sheet;
 use run::Trace;
@@ -40,7 +40,36 @@ fn has_room(
     len <= room
 }
 
-// The same with rows for the run's book.
+// Writes the sheet to the front of the buffer, or leaves the buffer as it was where it is too short.
+fn laid(
+    out: &mut [u8],
+    t: Trace,
+    table: &[u8],
+    own: &[u32],
+    told: &[u64],
+    point: &[u32],
+    list: &[u32],
+) -> Reported
+    requires { ⌜ Answers (now told) × (length (sheetText t (now table) (now own) (now told) (now point) (now list)) ≤ 40960) ⌝ }
+    ensures { λ r. ⌜ LaidOn (sheetText t (now (table .entry)) (now (own .entry)) (now (told .entry)) (now (point .entry)) (now (list .entry))) (now (out .entry)) r (now (out .exit)) ⌝ }
+{
+    let fits = has_room(out.len(), t, table, own, told, point, list);
+    if !fits {
+        return Reported {
+            refused: 14,
+            k: 0,
+            len: 0,
+        };
+    }
+    let len = put_sheet(out, t, table, own, told, point, list);
+    Reported {
+        refused: 0,
+        k: 0,
+        len,
+    }
+}
+
+// The report with rows for the run's book.
 fn report_by(
     file: &[u8],
     own: &mut [u32],
@@ -61,20 +90,7 @@ fn report_by(
         };
     }
     let table = table_of(file, t.calls);
-    let fits = has_room(out.len(), t, table, own, told, point, list);
-    if !fits {
-        return Reported {
-            refused: 14,
-            k: 0,
-            len: 0,
-        };
-    }
-    let len = put_sheet(out, t, table, own, told, point, list);
-    Reported {
-        refused: 0,
-        k: 0,
-        len,
-    }
+    laid(out, t, table, own, told, point, list)
 }
 
 // Writes the report of a file that reads well to the front of the buffer; refused, it leaves the buffer as it was.

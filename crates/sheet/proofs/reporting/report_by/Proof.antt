@@ -1,11 +1,10 @@
 -- The rows that are lent fit, so the trace is the file's refusal or its run.
 use borrow.Author.Needs.{needs}
-use borrow.Author.Tests.{not-true, not-false}
 use mathlib.Core.Path.{_≡_}
 use mathlib.Core.Bool.{true}
 use Rattle.octets.specs.Bytes.{AllBytes}
 use Rattle.run.specs.Trace.{fit}
-use Rattle.sheet.proofs.Reports.{rows-fit, refused, calls-read, answers, at-most, short, written}
+use Rattle.sheet.proofs.Reports.{rows-fit, refused, calls-read, answers, at-most, the-report}
 use Rattle.sheet.proofs.reporting.report_by.Statement.{statement}
 use Rattle.sheet.proofs.reporting.report_by.Tie as tie
 
@@ -21,7 +20,7 @@ bytes c i = first c .shared-slice-known .given i .fits
 pub report-by-spec : {M : Type 1} → statement M
 report-by-spec =
     tie.close
-    (tie.spec (λ c κs. search needs)
+    (tie.spec (λ c κs. tt)
     (λ c. search needs)
     (λ c. search needs)
     (λ c. search needs)
@@ -33,29 +32,17 @@ report-by-spec =
     let s = first c .before in
     calls-read (s .args .file .now) (s .args .out .now) (s .args .own .now) (s .args .told .now) (s .args .point .now) (s .args .list .now) _ _ _ _ _ (fits s) (c .before .before .before .before .before .before .before .before .before .before .traced .ensures) (c .if1 .left))
     (λ c κs.
-    let e = c .before .before .before .before .before in
+    let e = c .before .before .before .before .before .before in
     let s = first e .before in (
-      answers (s .args .file .now) (s .args .out .now) (s .args .own .now) (s .args .told .now) (s .args .point .now) (s .args .list .now) _ _ _ _ _ (fits s) (c .before .before .before .before .before .before .before .before .before .before .before .before .before .before .before .traced .ensures) (e .if1 .left) (bytes e),
-      at-most (s .args .file .now) (s .args .out .now) (s .args .own .now) (s .args .told .now) (s .args .point .now) (s .args .list .now) _ _ _ _ _ (fits s) (c .before .before .before .before .before .before .before .before .before .before .before .before .before .before .before .traced .ensures) (e .if1 .left) (bytes e) _ (c .before .before .before .before .table-of .ensures),
+      answers (s .args .file .now) (s .args .out .now) (s .args .own .now) (s .args .told .now) (s .args .point .now) (s .args .list .now) _ _ _ _ _ (fits s) (e .before .before .before .before .before .before .before .before .before .before .traced .ensures) (e .if1 .left) (bytes e),
+      at-most (s .args .file .now) (s .args .out .now) (s .args .own .now) (s .args .told .now) (s .args .point .now) (s .args .list .now) _ _ _ _ _ (fits s) (e .before .before .before .before .before .before .before .before .before .before .traced .ensures) (e .if1 .left) (bytes e) _ (c .before .before .before .before .before .table-of .ensures),
     ))
     (λ c. search needs)
     (λ c. search needs)
     (λ c. search needs)
     (λ c. search needs)
-    (λ c.
-    let e = c .before .before .before .before .before .before .before in
-    let s = first e .before in
-    short (s .args .file .now) (s .args .out .now) (s .args .own .now) (s .args .told .now) (s .args .point .now) (s .args .list .now) _ _ _ _ _ (fits s) (c .before .before .before .before .before .before .before .before .before .before .before .before .before .before .before .before .before .traced .ensures) (e .if1 .left) (bytes e) _ (c .before .before .before .before .before .before .table-of .ensures) _ (c .before .has-room .ensures) (not-true _ (c .if2 .taken)))
-    (λ c κs.
-    let e = c .before .before .before .before .before .before .before .before .before .before .before .before in
-    let s = first e .before in
-    answers (s .args .file .now) (s .args .out .now) (s .args .own .now) (s .args .told .now) (s .args .point .now) (s .args .list .now) _ _ _ _ _ (fits s) (c .before .before .before .before .before .before .before .before .before .before .before .before .before .before .before .before .before .before .before .before .before .before .traced .ensures) (e .if1 .left) (bytes e))
-    (λ c. search needs)
-    (λ c. search needs)
-    (λ c. search needs)
-    (λ c. search needs)
     (λ c. search needs)
     (λ c.
-    let e = c .before .before .before .before .before .before .before .before .before .before .before .before .before .before .before in
+    let e = c .before .before .before .before .before .before .before .before .before in
     let s = first e .before in
-    written (s .args .file .now) (s .args .out .now) (s .args .own .now) (s .args .told .now) (s .args .point .now) (s .args .list .now) _ _ _ _ _ (fits s) (c .before .before .before .before .before .before .before .before .before .before .before .before .before .before .before .before .before .before .before .before .before .before .before .before .before .traced .ensures) (e .if1 .left) (bytes e) _ (c .before .before .before .before .before .before .before .before .before .before .before .before .before .before .table-of .ensures) _ (c .before .before .before .before .before .before .before .before .before .has-room .ensures) (not-false _ (c .before .before .before .before .before .before .before .before .if2 .left)) (c .before .before .put-sheet .ensures)))
+    the-report (s .args .file .now) (s .args .out .now) (s .args .own .now) (s .args .told .now) (s .args .point .now) (s .args .list .now) _ _ _ _ _ (fits s) (e .before .before .before .before .before .before .before .before .before .before .traced .ensures) (e .if1 .left) (bytes e) _ (c .before .before .before .before .before .before .before .before .table-of .ensures) (c .before .before .laid .ensures)))
