@@ -14,13 +14,14 @@ use Rattle.octets.specs.Bytes.{bytes, AllBytes}
 use Rattle.rules.proofs.Facts.{either-way}
 use Rattle.script.specs.Wrote.{cut}
 use Rattle.script.specs.Decimal.{decimal}
+use Rattle.script.specs.Kind.{readWord, setWord, swapWord, kindWord}
 use Rattle.runfile.specs.declared.CallRecord.{CallRecord}
 use Rattle.runfile.specs.Layout.{records, callBytes, callOf, noCall}
 use Rattle.runtext.specs.declared.Stage.{Stage}
 use Rattle.runtext.specs.declared.Stage.the-variants.{StartValue, Stations, Count, Call, Kind, First, Second, Turn}
 use Rattle.runtext.specs.declared.Scan.{Scan}
-use Rattle.runtext.specs.Letters.{newline, space, startWord, stationsWord, readWord, setWord, swapWord, turnsWord}
-use Rattle.runtext.specs.Text.{headText, kindText, valuesText, callText, callsText, rowEnds, rowsText, turnsText, textOf}
+use Rattle.runtext.specs.Letters.{newline, space, startWord, stationsWord, turnsWord}
+use Rattle.runtext.specs.Text.{headText, valuesText, callText, callsText, rowEnds, rowsText, turnsText, textOf}
 use Rattle.runtext.specs.Draft.{word, noWord, noCode, noNumber, grown, codeFrom, is, draft, tookStart, tookCount, tookStation, tookKind, tookFirst, tookSecond, tookTurn, tookAt, madeCall, endedAt, lackingAt, recordBytes, callFrom, turnFrom}
 use Rattle.runtext.specs.Scan.{scan, noScan, wordEnded, lineEnded, stepOn, step, run, given}
 use Rattle.runtext.specs.Parse.{lastDraft, lacking, tableIn, turnsIn}
@@ -125,15 +126,15 @@ module _ (line x n q : ℕ) (h : q < 1024) (k : n ≤ 32) (c₀ : CallRecord) wh
 
     -- the three kinds, as they are printed
     read-line : Goes from (callText (call v 0 0 0)) (to (call v 0 0 0)) (recordBytes (call v 0 0 0)) []
-    unfolding callText kindText valuesText
+    unfolding callText kindWord valuesText
     read-line = simp (append-assoc, append-nil) (simp append-assoc at read-goes)
 
     set-line : (a b : ℕ) → a < noNumber → b < noNumber → Goes from (callText (call v 1 a b)) (to (call v 1 a b)) (recordBytes (call v 1 a b)) []
-    unfolding callText kindText valuesText
+    unfolding callText kindWord valuesText
     set-line a b la lb = simp append-assoc (simp append-assoc at (named 1 a b la lb setWord refl set-taken))
 
     swap-line : (a b : ℕ) → a < noNumber → b < noNumber → Goes from (callText (call v 2 a b)) (to (call v 2 a b)) (recordBytes (call v 2 a b)) []
-    unfolding callText kindText valuesText
+    unfolding callText kindWord valuesText
     swap-line a b la lb = simp append-assoc (simp append-assoc at (named 2 a b la lb swapWord refl swap-taken))
 
   same-call : (s k a b k′ a′ b′ : ℕ) → k ≡ k′ → a ≡ a′ → b ≡ b′ → call s k a b ≡ call s k′ a′ b′

@@ -10,10 +10,11 @@ use Rattle.octets.specs.Bytes.{AllBytes}
 use Rattle.rules.proofs.Facts.{either-way, or-none}
 use Rattle.script.specs.Decimal.{decimal}
 use Rattle.script.proofs.Decimals.{length-decimal, length-decimal-32}
+use Rattle.script.proofs.Lengths.{length-kind}
 use Rattle.runfile.specs.declared.CallRecord.{CallRecord}
 use Rattle.runfile.specs.Layout.{records, callBytes, callRecord, callOf}
 use Rattle.runfile.proofs.Trailers.{length-part, bytes-part}
-use Rattle.runtext.specs.Text.{headText, kindText, valuesText, callText, callsText, rowsText, turnsText, textOf}
+use Rattle.runtext.specs.Text.{headText, valuesText, callText, callsText, rowsText, turnsText, textOf}
 use Rattle.runtext.specs.Draft.{recordBytes}
 use Rattle.runtext.proofs.Records.{GoodCall, numbers, same-record}
 use Rattle.runtext.proofs.Runs.{GoodRun}
@@ -24,12 +25,6 @@ two-digits n h = length-decimal n 2 (omega arith) (omega arith)
 length-head : (x n : ℕ) → x < 2 ^ 32 → n ≤ 32 → length (headText x n) ≤ 29
 unfolding headText
 length-head x n h g = simp length-append (omega (arith, length-decimal-32 x h, two-digits n g))
-
-length-kind : (kind : ℕ) → length (kindText kind) ≤ 5
-unfolding kindText
-length-kind kind =
-    either-way (eqb kind 0) (λ t. rw t (omega arith))
-    (λ f. rw f (either-way (eqb kind 1) (λ t. rw t (omega arith)) (λ g. rw g (omega arith))))
 
 length-values : (c : CallRecord) → c .a < 2 ^ 32 → c .b < 2 ^ 32 → length (valuesText c) ≤ 22
 unfolding valuesText

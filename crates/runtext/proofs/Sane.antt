@@ -13,6 +13,7 @@ use lib.ListN.{length, length-append, List·getD-append}
 use lib.Seq.{getD-at}
 use Rattle.octets.specs.Bytes.{bytes}
 use Rattle.rules.proofs.Facts.{and-left, and-right}
+use Rattle.script.specs.Kind.{readWord, setWord, swapWord}
 use Rattle.runfile.specs.declared.CallRecord.{CallRecord}
 use Rattle.runfile.specs.Layout.{records}
 use Rattle.runfile.specs.Reading.{badCallAt, badTurnAt}
@@ -21,7 +22,7 @@ use Rattle.runtext.specs.declared.Stage.{Stage}
 use Rattle.runtext.specs.declared.Stage.the-variants.{Start, StartValue, AfterStart, Stations, Count, AfterCount, Call, Kind, First, Second, AfterCall, Turn}
 use Rattle.runtext.specs.declared.Draft.{Draft}
 use Rattle.runtext.specs.declared.Scan.{Scan}
-use Rattle.runtext.specs.Letters.{startWord, stationsWord, readWord, setWord, swapWord, turnsWord}
+use Rattle.runtext.specs.Letters.{startWord, stationsWord, turnsWord}
 use Rattle.runtext.specs.Draft.{draft, refuse, noNumber, is, isValue, isFrom1To, tookStart, tookCount, tookStation, tookKind, tookFirst, tookSecond, tookTurn, tookAt, madeCall, endedAt, recordBytes, callFrom, turnFrom, callMade, turnMade, lackingAt}
 use Rattle.runtext.specs.Scan.{wordEnded, lineEnded, stepOn, step, run, given, isBlank, noScan}
 use Rattle.runtext.specs.Parse.{lastDraft, lacking, tableIn, turnsIn}

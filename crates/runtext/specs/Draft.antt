@@ -4,13 +4,14 @@ use mathlib.Core.List.{List, [], _∷_, _++_}
 use Prim.Native.Nat.{ℕ, _+_, _*_, _-_}
 use lib.Dec.{eqb, ltb, leb}
 use Rattle.octets.specs.Bytes.{bytes}
+use Rattle.script.specs.Kind.{readWord, setWord, swapWord}
 use Rattle.runfile.specs.declared.CallRecord.{CallRecord}
 use Rattle.runfile.specs.Layout.{noCall}
 use Rattle.runtext.specs.declared.Word.{Word}
 use Rattle.runtext.specs.declared.Stage.{Stage}
 use Rattle.runtext.specs.declared.Stage.the-variants.{Start, StartValue, AfterStart, Stations, Count, AfterCount, Call, Kind, First, Second, AfterCall, Turn}
 use Rattle.runtext.specs.declared.Draft.{Draft}
-use Rattle.runtext.specs.Letters.{startWord, stationsWord, readWord, setWord, swapWord, turnsWord}
+use Rattle.runtext.specs.Letters.{startWord, stationsWord, turnsWord}
 
 abbrev pub word : ℕ → ℕ → Word
 word code number = record { code = code; number = number }

@@ -1,14 +1,15 @@
 use borrow.Author.Needs.{needs}
 use borrow.Author.Tests.{ne-eqb}
-use Rattle.sheet.specs.Sheet.{kindWord}
-use Rattle.sheet.proofs.lines.put_kind.Statement.{statement}
-use Rattle.sheet.proofs.lines.put_kind.Tie as tie
+use Rattle.script.specs.Kind.{kindWord}
+use Rattle.script.proofs.kind.Statement.{statement}
+use Rattle.script.proofs.kind.Tie as tie
 
-pub put-kind-spec : {M : Type 1} → statement M
+pub kind-spec : {M : Type 1} → statement M
 unfolding kindWord
-put-kind-spec =
+kind-spec =
     tie.close
-    (tie.spec (λ c. search needs)
+    (tie.spec
+    (λ c. search needs)
     (λ c κs. search needs)
     (λ c. search needs)
     (λ c κs. search needs)
@@ -19,4 +20,7 @@ put-kind-spec =
     (λ c. search needs)
     (λ c. simp (c .before .before .before .before .before .match .keys2) (c .before .before .word2 .ensures))
     (λ c. search needs)
-    (λ c. simp (ne-eqb _ _ (c .before .before .before .before .before .match .rest .0 .1), ne-eqb _ _ (c .before .before .before .before .before .match .rest .1)) (c .before .before .word3 .ensures)))
+    (λ c.
+    let c2 = c .before .before in
+    let c1 = c2 .before .before .before in
+    simp (ne-eqb _ _ (c1 .match .rest .0 .1), ne-eqb _ _ (c1 .match .rest .1)) (c2 .word3 .ensures)))
