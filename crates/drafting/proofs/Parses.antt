@@ -1,9 +1,8 @@
 -- What parsing answers and leaves in the buffer, from what the writer does with the run that the text tells. Assumes nothing.
 use mathlib.Core.Path.{_≡_, refl, sym}
 use mathlib.Core.List.{List}
-use Prim.Native.Nat.{ℕ, _-_, _≤_}
+use Prim.Native.Nat.{ℕ, _≤_}
 use native.Mathlib.Omega.{arith}
-use native.Mathlib.Nat.{sub-zero}
 use borrow.Author.Tests.{ltb-true, ltb-false, eq-eqb, ne-eqb}
 use lib.Dec.{ltb}
 use lib.ListN.{length, take, drop}
@@ -62,7 +61,7 @@ module _ (text out : List ℕ) (h : lacking (lastDraft text) ≡ 0) (answer : Wr
 -- the same from the rows that were lent
 pub taken-from : (text out table turns : List ℕ) (a b : ℕ) (d : Draft) → d ≡ lastDraft text → lacking d ≡ 0
     → take a table ≡ tableIn text → take b turns ≡ turnsIn text → (answer : WriteAnswer) (after : List ℕ)
-    → Written (d .x) (d .n) (take (a - 0) table) (take (b - 0) turns) out answer after
+    → Written (d .x) (d .n) (take a table) (take b turns) out answer after
     → ParsedTo text out (parsed 0 (answer .refused) (answer .len)) after
 taken-from text out table turns a b d e l f g answer after w =
-    taken text out (rw e at l) answer after (rw (sub-zero a, sub-zero b, e, f, g) at w)
+    taken text out (rw e at l) answer after (rw (e, f, g) at w)

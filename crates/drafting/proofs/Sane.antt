@@ -191,8 +191,10 @@ module _ (d : Draft) (w : Word) (table turns : List ℕ) (c : Common (d .x) (d .
       by-cond P (isValue w)
       (λ t.
       let k = h .1 .0 in
+      let a = h .1 .1 .1 in
+      let b = ltb-true (w .number) noNumber t in
       same _ refl refl
-      (c, (h .0 .0, record { some = h .0 .1 .0; few = h .0 .1 .1; kind = h .1 .1 .0; read = λ z. absurd (omega arith); a = h .1 .1 .1; b = ltb-true (w .number) noNumber t })))
+      (c, (h .0 .0, record { some = h .0 .1 .0; few = h .0 .1 .1; kind = h .1 .1 .0; read = λ z. absurd (omega arith); a = omega arith; b = omega arith })))
       (λ f. stay (rw (← e) h) 2)
   took AfterCall e h = stay (rw (← e) h) 3
   took Turn e h =
@@ -289,15 +291,18 @@ module _ (s : Scan) (table turns : List ℕ) (y : Sane (s .draft) table turns) w
       joined table turns d d₁ d₂ (w .0) (o .0) (o .1 .0) (o .1 .1))
       (λ f. word-over)
 
-  byte-over : (b : ℕ) → Sane (step s b .draft) (table ++ callMade (s .draft) (step s b .draft)) (turns ++ turnMade (s .draft) (step s b .draft))
-  unfolding step stepOn
-  byte-over b =
-      let S : Scan → Type 0 = λ s′. R (s′ .draft) in
-      by-cond S (eqb (d .expected) 0)
-      (λ t.
+  abbrev S : Scan → Type 0
+  S s′ = R (s′ .draft)
+
+  byte-on : (b : ℕ) → S (stepOn s b)
+  unfolding stepOn
+  byte-on b =
       by-cond S (eqb b 10) (λ _. line-over)
-      (λ _. by-cond S (s .comment) (λ _. idle) (λ _. by-cond S (eqb b 35) (λ _. word-over) (λ _. by-cond S (isBlank b) (λ _. word-over) (λ _. idle)))))
-      (λ f. idle)
+      (λ _. by-cond S (s .comment) (λ _. idle) (λ _. by-cond S (eqb b 35) (λ _. word-over) (λ _. by-cond S (isBlank b) (λ _. word-over) (λ _. idle))))
+
+  byte-over : (b : ℕ) → Sane (step s b .draft) (table ++ callMade (s .draft) (step s b .draft)) (turns ++ turnMade (s .draft) (step s b .draft))
+  unfolding step
+  byte-over b = by-cond S (eqb (d .expected) 0) (λ _. byte-on b) (λ _. idle)
 
 -- a text
 all-sane : (text : List ℕ) (s : Scan) (table turns : List ℕ) → Sane (s .draft) table turns

@@ -34,7 +34,7 @@ fn parse_by(text: &[u8], table: &mut [u8], turns: &mut [u8], out: &mut [u8]) -> 
     }
     let a = h.table;
     let b = h.turns;
-    let w = runfile::write(d.x, d.n, &table[0..a], &turns[0..b], out);
+    let w = runfile::write(d.x, d.n, &table[..a], &turns[..b], out);
     Parsed {
         line: 0,
         expected: w.refused,

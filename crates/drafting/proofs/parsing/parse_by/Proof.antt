@@ -2,7 +2,7 @@ use borrow.Author.Needs.{needs}
 use mathlib.Core.Path.{_∙_, sym, ap}
 use Prim.Native.Nat.{_≤_}
 use native.Mathlib.Omega.{arith}
-use lib.ListN.{length}
+use lib.ListN.{length, length-take}
 use Rattle.drafting.specs.Parse.{lacking, tableIn, turnsIn}
 use Rattle.drafting.proofs.Sane.{table-fits, turns-fit}
 use Rattle.drafting.proofs.Parses.{refused, front, front-ends, taken-from}
@@ -28,25 +28,29 @@ parse-by-spec =
     let c2 = c .before .before .before .before .before .before .before in
     let c1 = c2 .before .before .before .before .before .before .before in
     let h = c2 .heaped .ensures in refused (c1 .args .text .now) _ _ _ (h .0 .0) (c .before .lacking .ensures ∙ ap lacking (h .0 .1)) (c .if1 .taken))
-    (λ c. search needs)
-    (λ c. search needs)
+    (λ c.
+    let c2 = c .before .before .before .before .before .before .before in
+    let c1 = c2 .before .before .before .before .before .before .before in
+    front-ends _ (c2 .heaped .ensures .1 .calls) (table-row c1))
     (λ c.
     let c2 = c .before .before .before .before .before .before .before .before in
     let c1 = c2 .before .before .before .before .before .before .before in
-    omega (arith, front-ends _ (c2 .heaped .ensures .1 .calls) (table-row c1)))
-    (λ c. search needs)
-    (λ c. search needs)
+    simp length-take (omega (arith, front-ends _ (c2 .heaped .ensures .1 .calls) (table-row c1))))
     (λ c.
-    let c2 = c .before .before .before .before .before .before .before .before .before .before in
+    let c2 = c .before .before .before .before .before .before .before .before in
     let c1 = c2 .before .before .before .before .before .before .before in
-    omega (arith, front-ends _ (c2 .heaped .ensures .1 .turned) (turns-row c1)))
+    front-ends _ (c2 .heaped .ensures .1 .turned) (turns-row c1))
+    (λ c.
+    let c2 = c .before .before .before .before .before .before .before .before .before in
+    let c1 = c2 .before .before .before .before .before .before .before in
+    simp length-take (omega (arith, front-ends _ (c2 .heaped .ensures .1 .turned) (turns-row c1))))
     (λ c κs. search needs)
     (λ c. search needs)
     (λ c. search needs)
     (λ c. search needs)
     (λ c.
     let c5 = c .before .before in
-    let c4 = c5 .before .before .before .before .before .before in
+    let c4 = c5 .before .before .before .before in
     let c3 = c4 .before in
     let c2 = c3 .before .before .before .before .before .before in
     let c1 = c2 .before .before .before .before .before .before .before in
