@@ -5,8 +5,8 @@ use Prim.Native.Nat.{ℕ, min}
 use lib.Dec.{eqb}
 use Rattle.script.specs.Decimal.{decimal}
 use Rattle.script.specs.Quote.{quote}
-use Rattle.runtext.specs.declared.Parsed.{Parsed}
 use Rattle.runtext.specs.Letters.{newline}
+use Rattle.drafting.specs.declared.Parsed.{Parsed}
 
 -- the words for what was expected, by its number
 unfoldable pub wordsFor : ℕ → List ℕ

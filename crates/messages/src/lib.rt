@@ -3,7 +3,7 @@ ghost use mathlib.Core.Path.{_≡_};
 ghost use Prim.Native.Nat.{min};
 ghost use Rattle.script.specs.Wrote.{Wrote};
 ghost use Rattle.messages.specs.Complaint.{wordsFor, complaintOf};
-use runtext::Parsed;
+use drafting::Parsed;
 use script::decimal;
 use script::put;
 use script::word;

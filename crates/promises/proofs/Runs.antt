@@ -2,6 +2,7 @@
 use mathlib.Core.Path.{refl}
 use Rattle.octets.specs.Bytes.{bytes, spelled}
 use Rattle.script.specs.Decimal.{decimal, digitsIn}
+use Rattle.script.specs.Kind.{kindWord}
 use Rattle.card.proofs.Card.{card}
 use Rattle.method.specs.Effect.{losers, points}
 use Rattle.method.specs.Table.{row}
@@ -14,7 +15,7 @@ use Rattle.run.specs.Rows.{enterCall}
 use Rattle.run.specs.Book.{allEnter}
 use Rattle.run.specs.Calls.{callAfter}
 use Rattle.run.specs.Run.{firstCalls, noted, runFrom}
-use Rattle.sheet.specs.Sheet.{kindWord, answerWord, lineText, linesText, lastText, sheetText}
+use Rattle.sheet.specs.Sheet.{answerWord, lineText, linesText, lastText, sheetText}
 use Rattle.sheet.specs.Report.{reportText}
 use Rattle.promises.specs.Runs.{RunsToCheck}
 

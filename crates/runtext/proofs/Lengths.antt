@@ -1,22 +1,19 @@
 -- How long the text of a good run is: 153,635 bytes at most. Assumes nothing.
-use mathlib.Core.Path.{_≡_}
 use mathlib.Core.List.{List}
-use Prim.Native.Nat.{ℕ, zero, suc, _+_, _*_, _-_, _^_, _<_, _≤_}
+use Prim.Native.Nat.{ℕ, zero, suc, _+_, _*_, _^_, _<_, _≤_}
 use native.Mathlib.Omega.{arith}
-use borrow.Author.Tests.{eqb-false, ne-eqb, le-ltb, ltb-false}
-use lib.Dec.{eqb, ltb}
+use lib.Dec.{eqb}
 use lib.ListN.{length, getD, length-append}
 use Rattle.octets.specs.Bytes.{AllBytes}
-use Rattle.rules.proofs.Facts.{either-way, or-none}
+use Rattle.rules.proofs.Facts.{either-way}
 use Rattle.script.specs.Decimal.{decimal}
 use Rattle.script.proofs.Decimals.{length-decimal, length-decimal-32}
+use Rattle.script.proofs.Lengths.{length-kind}
 use Rattle.runfile.specs.declared.CallRecord.{CallRecord}
-use Rattle.runfile.specs.Layout.{records, callBytes, callRecord, callOf}
-use Rattle.runfile.proofs.Trailers.{length-part, bytes-part}
-use Rattle.runtext.specs.Text.{headText, kindText, valuesText, callText, callsText, rowsText, turnsText, textOf}
-use Rattle.runtext.specs.Draft.{recordBytes}
-use Rattle.runtext.proofs.Records.{GoodCall, numbers, same-record}
-use Rattle.runtext.proofs.Runs.{GoodRun}
+use Rattle.runfile.specs.Layout.{records, callBytes, callRecord}
+use Rattle.runtext.specs.Text.{headText, valuesText, callText, callsText, rowsText, turnsText, textOf}
+use Rattle.runtext.proofs.Records.{GoodCall}
+use Rattle.runtext.proofs.Runs.{GoodRun, call-is, call-good, turn-good}
 
 two-digits : (n : ℕ) → n ≤ 32 → length (decimal n) ≤ 2
 two-digits n h = length-decimal n 2 (omega arith) (omega arith)
@@ -24,12 +21,6 @@ two-digits n h = length-decimal n 2 (omega arith) (omega arith)
 length-head : (x n : ℕ) → x < 2 ^ 32 → n ≤ 32 → length (headText x n) ≤ 29
 unfolding headText
 length-head x n h g = simp length-append (omega (arith, length-decimal-32 x h, two-digits n g))
-
-length-kind : (kind : ℕ) → length (kindText kind) ≤ 5
-unfolding kindText
-length-kind kind =
-    either-way (eqb kind 0) (λ t. rw t (omega arith))
-    (λ f. rw f (either-way (eqb kind 1) (λ t. rw t (omega arith)) (λ g. rw g (omega arith))))
 
 length-values : (c : CallRecord) → c .a < 2 ^ 32 → c .b < 2 ^ 32 → length (valuesText c) ≤ 22
 unfolding valuesText
@@ -44,42 +35,20 @@ length-call n c h g =
     simp length-append
     (omega (arith, two-digits (c .station) (omega arith), length-kind (c .kind), length-values c (g .a) (g .b)))
 
--- the calls of a table of bytes, one by one
+-- a run whose table is bytes
 module _ (x n : ℕ) (table turns : List ℕ) (h : AllBytes table) (g : GoodRun x n table turns) where
-  pub call-is : (i : ℕ) → i < records table → callOf table (suc i) ≡ callRecord (callBytes table i)
-  unfolding callOf
-  call-is i l =
-      let e : suc i - 1 ≡ i = omega arith in
-      rw (ne-eqb (suc i) 0 (λ z. omega arith), le-ltb (records table) (suc i) l, e)
-
-  pub call-length : (i : ℕ) → i < records table → length (callBytes table i) ≡ 12
-  call-length i l = let w = g .whole in length-part table (12 * i) 12 (omega arith)
-
-  pub call-good : (i : ℕ) → i < records table → GoodCall n (callRecord (callBytes table i))
-  call-good i l = numbers n (callBytes table i) (bytes-part table (12 * i) 12 h) (call-length i l) (g .goodCalls i l)
-
-  pub call-same : (i : ℕ) → i < records table → recordBytes (callRecord (callBytes table i)) ≡ callBytes table i
-  call-same i l = same-record n (callBytes table i) (bytes-part table (12 * i) 12 h) (call-length i l) (g .goodCalls i l)
-
   length-calls : (i : ℕ) → i ≤ records table → length (callsText table i) ≤ 30 * i
   unfolding callsText
   length-calls zero l = omega arith
   length-calls (suc i) l =
-      let c = length-call n (callRecord (callBytes table i)) (g .few) (call-good i (omega arith)) in
-      rw (call-is i (omega arith)) (simp length-append (omega (arith, c, length-calls i (omega arith))))
-
-  -- a turn is a station
-  pub turn-good : (i : ℕ) → i < length turns → (0 < getD turns i 0) × (getD turns i 0 ≤ n)
-  turn-good i l =
-      let b = or-none (eqb (getD turns i 0) 0) (ltb n (getD turns i 0)) (g .goodTurns i l) in
-      let z = eqb-false (getD turns i 0) 0 (b .0) in
-      (omega arith, ltb-false n (getD turns i 0) (b .1))
+      let c = length-call n (callRecord (callBytes table i)) (g .few) (call-good x n table turns h g i (omega arith)) in
+      rw (call-is x n table turns h g i (omega arith)) (simp length-append (omega (arith, c, length-calls i (omega arith))))
 
   length-rows : (i : ℕ) → i ≤ length turns → length (rowsText turns i) ≤ 3 * i
   unfolding rowsText
   length-rows zero l = omega arith
   length-rows (suc i) l =
-      let t = turn-good i (omega arith) .1 in
+      let t = turn-good x n table turns h g i (omega arith) .1 in
       let f = g .few in
       simp length-append (omega (arith, two-digits (getD turns i 0) (omega arith), length-rows i (omega arith)))
 

@@ -1,13 +1,6 @@
-pub mod Numbers
 pub mod Lines
-pub mod Scans
-pub mod Fills
 pub mod Records
 pub mod Runs
-pub mod Sane
-pub mod Parses
 pub mod Lengths
 pub mod Prints
-pub mod Goes
-pub mod Back
 pub mod Promised

@@ -1,27 +1,24 @@
 -- What it says of a starting value, a number of stations, a call table and turns that they make a good run: a file that reads
--- well holds one, and the writer refuses none. Assumes nothing.
-use mathlib.Core.Path.{_≡_, refl, _∙_, ap}
-use mathlib.Core.Bool.{Bool, false, cond}
-use mathlib.Core.List.{List, [], _∷_, _++_}
-use Prim.Native.Nat.{ℕ, _*_, _-_, _%_, _^_, _<_, _≤_}
+-- well holds one, and each of its calls and turns is good. Assumes nothing.
+use mathlib.Core.Path.{_≡_}
+use mathlib.Core.Bool.{Bool, false}
+use mathlib.Core.List.{List}
+use Prim.Native.Nat.{ℕ, suc, _*_, _-_, _^_, _<_, _≤_}
 use native.Mathlib.Omega.{arith}
-use borrow.Author.Tests.{eqb-false, ltb-false, eq-eqb, ne-eqb, le-ltb, lt-ltb}
+use borrow.Author.Tests.{eqb-false, ltb-false, ne-eqb, le-ltb}
 use lib.Dec.{eqb, ltb}
-use lib.ListN.{length, drop, length-take}
+use lib.ListN.{length, getD, length-take}
 use Rattle.octets.specs.Bytes.{AllBytes}
 use Rattle.octets.proofs.Spelled.{fits-in}
-use Rattle.rules.specs.Row.{Row, verdict, verdictOf}
 use Rattle.rules.proofs.Facts.{or-none}
-use Rattle.rules.proofs.Rows.{Clear, clear-both}
-use Rattle.runfile.specs.Layout.{part, records, fileOf}
-use Rattle.runfile.specs.declared.WriteAnswer.{WriteAnswer}
+use Rattle.runfile.specs.Layout.{part, records, callBytes, callRecord, callOf}
 use Rattle.runfile.specs.First.{firstOf}
-use Rattle.runfile.specs.Reading.{agrees, badCallAt, badTurnAt, firstCall, firstTurn, partRows, tableBy, turnsBy, trailerAt, turnCount, readOf, tableOf, turnsOf}
-use Rattle.runfile.specs.Writing.{fileLength, lengthRows, roomRows, writeRows, wrote, writeBy, writeOf, outOf, Written}
+use Rattle.runfile.specs.Reading.{agrees, badCallAt, badTurnAt, firstCall, firstTurn, tableBy, turnsBy, trailerAt, turnCount, readOf, tableOf, turnsOf}
 use Rattle.runfile.proofs.Answers.{Good, by-answer}
 use Rattle.runfile.proofs.First.{searched}
 use Rattle.runfile.proofs.Limits.{within}
 use Rattle.runfile.proofs.Trailers.{length-part, bytes-part}
+use Rattle.runtext.proofs.Records.{GoodCall, numbers}
 
 pub record GoodRun (x n : ℕ) (table turns : List ℕ) : Type 0 where
   pub value : x < 2 ^ 32
@@ -33,53 +30,9 @@ pub record GoodRun (x n : ℕ) (table turns : List ℕ) : Type 0 where
   pub goodCalls : (i : ℕ) → i < records table → badCallAt n table i ≡ false
   pub goodTurns : (i : ℕ) → i < length turns → badTurnAt n turns i ≡ false
 
--- rows that do not hold are passed over
-skipped : (rs qs : List Row) → Clear rs → verdictOf (rs ++ qs) ≡ verdictOf qs
-skipped [] qs c = refl
-skipped (r ∷ rs) qs c = rw (c .0) (skipped rs qs (c .1))
-
--- a search that finds nothing, and what is good everywhere
+-- where a search finds nothing, nothing is bad
 found-none : (p : ℕ → Bool) (m : ℕ) → ltb 0 (firstOf p m) ≡ false → (i : ℕ) → i < m → p i ≡ false
 found-none p m e = searched p m .none .0 (omega (arith, ltb-false 0 (firstOf p m) e))
-
-none-found : (p : ℕ → Bool) (m : ℕ) → ((i : ℕ) → i < m → p i ≡ false) → ltb 0 (firstOf p m) ≡ false
-none-found p m h = le-ltb 0 (firstOf p m) (omega (arith, searched p m .none .1 h))
-
--- the writer refuses a good run for want of room alone
-module _ (x n : ℕ) (table turns : List ℕ) (g : GoodRun x n table turns) where
-  no-number : Clear (lengthRows n table turns)
-  no-number =
-      let a = g .some in
-      let b = g .few in
-      let w = g .whole in
-      let z : eqb n 0 ≡ false = ne-eqb n 0 (λ e. omega arith) in
-      let m : length table % 12 ≡ 0 = omega arith in (
-        rw (z, le-ltb 32 n b),
-        (le-ltb 1024 (records table) (g .calls), (le-ltb 40960 (length turns) (g .moves), (rw (eq-eqb (length table % 12) 0 m), tt))),
-      )
-
-  no-part : Clear (partRows n table turns)
-  unfolding firstCall firstTurn
-  no-part = (none-found (badCallAt n table) (records table) (g .goodCalls), (none-found (badTurnAt n turns) (length turns) (g .goodTurns), tt))
-
-  -- a good run is written where there is room
-  pub written : (room : ℕ) → fileLength table turns ≤ room → Clear (writeRows n table turns room)
-  written room h =
-      clear-both (lengthRows n table turns) (partRows n table turns ++ roomRows table turns room) no-number
-      (clear-both (partRows n table turns) (roomRows table turns room) no-part (le-ltb room (fileLength table turns) h, tt))
-
-  -- and a buffer that is too short is left as it was
-  pub no-room : (out : List ℕ) (answer : WriteAnswer) (after : List ℕ) → length out < fileLength table turns
-      → Written x n table turns out answer after → (answer ≡ wrote 14 0 0) × (after ≡ out)
-  unfolding writeOf outOf
-  no-room out answer after h w =
-      let room = length out in
-      let len = fileLength table turns in
-      let e : verdictOf (writeRows n table turns room) ≡ verdict 14 0 =
-      skipped (lengthRows n table turns) (partRows n table turns ++ roomRows table turns room) no-number
-      ∙ skipped (partRows n table turns) (roomRows table turns room) no-part
-      ∙ rw (lt-ltb room len h) in
-      (w .answered ∙ ap (λ v. writeBy v len) e, w .left ∙ ap (λ v. cond (eqb (writeBy v len .refused) 0) (fileOf x n table turns ++ drop len out) out) e)
 
 -- a file that reads well holds a good run
 module _ (f : List ℕ) (h : AllBytes f) where
@@ -107,3 +60,24 @@ module _ (f : List ℕ) (h : AllBytes f) where
   held =
       by-answer f (λ r. r .refused ≡ 0 → GoodRun (r .x) (r .n) (part f (r .start) (12 * r .q)) (part f (r .middle) (r .t)))
       (λ r k n e. absurd (n e)) (λ g e. held-by g)
+
+-- the calls of a table of bytes, and the turns, one by one
+module _ (x n : ℕ) (table turns : List ℕ) (h : AllBytes table) (g : GoodRun x n table turns) where
+  pub call-is : (i : ℕ) → i < records table → callOf table (suc i) ≡ callRecord (callBytes table i)
+  unfolding callOf
+  call-is i l =
+      let e : suc i - 1 ≡ i = omega arith in
+      rw (ne-eqb (suc i) 0 (λ z. omega arith), le-ltb (records table) (suc i) l, e)
+
+  pub call-length : (i : ℕ) → i < records table → length (callBytes table i) ≡ 12
+  call-length i l = let w = g .whole in length-part table (12 * i) 12 (omega arith)
+
+  pub call-good : (i : ℕ) → i < records table → GoodCall n (callRecord (callBytes table i))
+  call-good i l = numbers n (callBytes table i) (bytes-part table (12 * i) 12 h) (call-length i l) (g .goodCalls i l)
+
+  -- a turn is a station
+  pub turn-good : (i : ℕ) → i < length turns → (0 < getD turns i 0) × (getD turns i 0 ≤ n)
+  turn-good i l =
+      let b = or-none (eqb (getD turns i 0) 0) (ltb n (getD turns i 0)) (g .goodTurns i l) in
+      let z = eqb-false (getD turns i 0) 0 (b .0) in
+      (omega arith, ltb-false n (getD turns i 0) (b .1))

@@ -1,4 +1,4 @@
--- The words of a run's text, as bytes. Assumes nothing.
+-- The words of a run's text, as bytes; those for a call's kind are `script`'s. Assumes nothing.
 use mathlib.Core.List.{List}
 use Prim.Native.Nat.{ℕ}
 use Rattle.script.specs.Quote.{quote}
@@ -14,15 +14,6 @@ startWord = quote "start"
 
 abbrev pub stationsWord : List ℕ
 stationsWord = quote "stations"
-
-abbrev pub readWord : List ℕ
-readWord = quote "read"
-
-abbrev pub setWord : List ℕ
-setWord = quote "set"
-
-abbrev pub swapWord : List ℕ
-swapWord = quote "swap"
 
 abbrev pub turnsWord : List ℕ
 turnsWord = quote "turns"

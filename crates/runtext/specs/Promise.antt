@@ -1,38 +1,16 @@
--- What is promised of run files as text: a printed file is turned back into the same bytes, a text that is not refused tells a good
--- run, a buffer of 153,635 bytes is always enough, and the contracts settle all. Assumes nothing.
+-- What is promised of a run file as text: a buffer of 153,635 bytes is always enough, and the contract settles all. Assumes nothing.
 use mathlib.Core.Path.{_≡_}
-use mathlib.Core.List.{List, _++_}
+use mathlib.Core.List.{List}
 use Prim.Native.Nat.{ℕ, _≤_}
-use lib.ListN.{length, take, drop}
 use Rattle.octets.specs.Bytes.{AllBytes}
 use Rattle.runfile.specs.Reading.{readOf}
-use Rattle.runfile.specs.Promise.{Holds}
 use Rattle.runtext.specs.declared.Printed.{Printed}
-use Rattle.runtext.specs.declared.Parsed.{Parsed}
 use Rattle.runtext.specs.Text.{printOf, PrintedTo}
-use Rattle.runtext.specs.Parse.{lastDraft, tableIn, turnsIn, parsed, ParsedTo}
-
--- a file that was printed on a page, and the page's text parsed: the same bytes, given room
-pub record TurnedBack (file out : List ℕ) (answer : Parsed) (after : List ℕ) : Type 0 where
-  pub answered : answer ≡ parsed 0 0 (length file)
-  pub left : after ≡ file ++ drop (length file) out
-
-unfoldable pub PrintedReadsBack : Type 0
-PrintedReadsBack =
-    (file page page′ out after : List ℕ) (p : Printed) (answer : Parsed) → AllBytes file → PrintedTo file page p page′ → p .refused ≡ 0
-    → length file ≤ length out → ParsedTo (take (p .len) page′) out answer after → TurnedBack file out answer after
-
--- the file that a text gives reads well, and holds what the text tells
-unfoldable pub TextsTellGoodRuns : Type 0
-TextsTellGoodRuns =
-    (text out after : List ℕ) (answer : Parsed) → ParsedTo text out answer after → answer .expected ≡ 0
-    → Holds (take (answer .len) after) (lastDraft text .x) (lastDraft text .n) (tableIn text) (turnsIn text)
 
 -- 14 is never given to a buffer of 153,635 bytes: a file is refused there as it is when it is read
 unfoldable pub AlwaysEnough : Type 0
 AlwaysEnough = (file : List ℕ) (room : ℕ) → AllBytes file → 153635 ≤ room → printOf file room .refused ≡ readOf file .refused
 
--- two answers with their buffers that a contract allows for one input are the same
-pub record Settled : Type 0 where
-  pub print : (file out : List ℕ) (a b : Printed) (c d : List ℕ) → PrintedTo file out a c → PrintedTo file out b d → (a ≡ b) × (c ≡ d)
-  pub parse : (text out : List ℕ) (a b : Parsed) (c d : List ℕ) → ParsedTo text out a c → ParsedTo text out b d → (a ≡ b) × (c ≡ d)
+-- two answers with their buffers that the contract allows for one input are the same
+unfoldable pub PrintSettled : Type 0
+PrintSettled = (file out : List ℕ) (a b : Printed) (c d : List ℕ) → PrintedTo file out a c → PrintedTo file out b d → (a ≡ b) × (c ≡ d)

@@ -6,20 +6,17 @@ use Prim.Native.Nat.{ℕ, zero, suc, _+_, _%_}
 use lib.Dec.{eqb, ltb}
 use lib.ListN.{length, getD, drop}
 use Rattle.script.specs.Decimal.{decimal}
+use Rattle.script.specs.Kind.{kindWord}
 use Rattle.runfile.specs.declared.CallRecord.{CallRecord}
 use Rattle.runfile.specs.Layout.{records, callOf}
 use Rattle.runfile.specs.Reading.{readOf, tableOf, turnsOf}
 use Rattle.runtext.specs.declared.Printed.{Printed}
-use Rattle.runtext.specs.Letters.{newline, space, startWord, stationsWord, readWord, setWord, swapWord, turnsWord}
+use Rattle.runtext.specs.Letters.{newline, space, startWord, stationsWord, turnsWord}
 
 -- `start X` and `stations N`, a line each
 unfoldable pub headText : ℕ → ℕ → List ℕ
 headText x n =
     (startWord ++ (space ∷ [])) ++ decimal x ++ (newline ∷ stationsWord ++ (space ∷ [])) ++ decimal n ++ (newline ∷ [])
-
--- kind 0 is read, 1 set, 2 swap
-unfoldable pub kindText : ℕ → List ℕ
-kindText kind = space ∷ cond (eqb kind 0) readWord (cond (eqb kind 1) setWord swapWord)
 
 -- a read has no values
 unfoldable pub valuesText : CallRecord → List ℕ
@@ -28,7 +25,7 @@ valuesText c =
 
 -- `S read`, `S set A B` or `S swap A B`
 unfoldable pub callText : CallRecord → List ℕ
-callText c = decimal (c .station) ++ kindText (c .kind) ++ valuesText c ++ (newline ∷ [])
+callText c = decimal (c .station) ++ (space ∷ []) ++ kindWord (c .kind) ++ valuesText c ++ (newline ∷ [])
 
 -- the lines of the first i calls
 unfoldable pub callsText : List ℕ → ℕ → List ℕ

@@ -4,11 +4,12 @@ ghost use Prim.Native.Nat.{_<_};
 ghost use lib.ListN.{length};
 ghost use Rattle.script.specs.Wrote.{Wrote};
 ghost use Rattle.runfile.specs.Layout.{records};
-ghost use Rattle.runtext.specs.Text.{headText, kindText, valuesText, callText, callsText, turnText, rowsText, turnsText, textOf, PrintedTo};
+ghost use Rattle.runtext.specs.Text.{headText, valuesText, callText, callsText, turnText, rowsText, turnsText, textOf, PrintedTo};
 use crate::Printed;
 use runfile::CallRecord;
 use runfile::call_at;
 use script::decimal;
+use script::kind;
 use script::put;
 use script::word;
 
@@ -20,16 +21,6 @@ fn put_head(out: &mut [u8], x: u32, n: u32) -> usize
     let o3 = word(out, o2, b"\nstations ");
     let o4 = decimal(out, o3, n);
     put(out, o4, b'\n')
-}
-
-fn put_kind(out: &mut [u8], at: usize, kind: u32) -> usize
-    ensures { λ r. ⌜ Wrote (now (out .entry)) (now (out .exit)) at r (kindText kind) ⌝ }
-{
-    match kind {
-        0 => word(out, at, b" read"),
-        1 => word(out, at, b" set"),
-        _ => word(out, at, b" swap"),
-    }
 }
 
 fn put_values(out: &mut [u8], at: usize, c: CallRecord) -> usize
@@ -48,9 +39,10 @@ fn put_call(out: &mut [u8], at: usize, c: CallRecord) -> usize
     ensures { λ r. ⌜ Wrote (now (out .entry)) (now (out .exit)) at r (callText c) ⌝ }
 {
     let o1 = decimal(out, at, c.station);
-    let o2 = put_kind(out, o1, c.kind);
-    let o3 = put_values(out, o2, c);
-    put(out, o3, b'\n')
+    let o2 = put(out, o1, b' ');
+    let o3 = kind(out, o2, c.kind);
+    let o4 = put_values(out, o3, c);
+    put(out, o4, b'\n')
 }
 
 fn put_calls(out: &mut [u8], at: usize, table: &[u8]) -> usize

@@ -1,10 +1,11 @@
-// Text appended to a lent buffer: a byte, a word, a decimal number. What has no place in the buffer is not written, but
-// the place handed back counts it, so a text is measured by writing it to a buffer of one byte.
+// Text appended to a lent buffer: a byte, a word, a decimal number, the word for a call's kind. What has no place in the
+// buffer is not written, but the place handed back counts it, so a text is measured by writing it to a buffer of one byte.
 ghost use mathlib.Core.Path.{_≡_};
 ghost use mathlib.Core.List.{[], _∷_};
 ghost use Prim.Native.Nat.{_≤_};
 ghost use Rattle.script.specs.Wrote.{Wrote};
 ghost use Rattle.script.specs.Decimal.{decimal, back};
+ghost use Rattle.script.specs.Kind.{kindWord};
 ghost use Rattle.script.specs.Promise.{WritersSettled};
 
 // The place past which none is counted.
@@ -82,6 +83,17 @@ pub fn decimal(out: &mut [u8], at: usize, x: u32) -> usize
     let digits = r.digits;
     let len = r.len;
     turned(out, at, digits, len)
+}
+
+// The word for a call's kind: 0 is read, 1 set, any other swap.
+pub fn kind(out: &mut [u8], at: usize, kind: u32) -> usize
+    ensures { λ r. ⌜ Wrote (now (out .entry)) (now (out .exit)) at r (kindWord kind) ⌝ }
+{
+    match kind {
+        0 => word(out, at, b"read"),
+        1 => word(out, at, b"set"),
+        _ => word(out, at, b"swap"),
+    }
 }
 
 // The contract of a writer allows one buffer and one next place for each input.

@@ -8,6 +8,7 @@ use lib.ListN.{length, getD, length-append}
 use Rattle.octets.specs.Bytes.{AllBytes}
 use Rattle.rules.proofs.Facts.{either-way}
 use Rattle.script.proofs.Decimals.{length-decimal, length-decimal-32}
+use Rattle.script.proofs.Lengths.{length-kind}
 use Rattle.runfile.specs.Reading.{readOf, tableOf}
 use Rattle.run.specs.Run.{Run}
 use Rattle.run.specs.Calls.{StationsWithin}
@@ -17,17 +18,11 @@ use Rattle.run.proofs.Files.{reads-well}
 use Rattle.limits.specs.Small.{Small, SmallNumbers}
 use Rattle.limits.proofs.Promised.{small-numbers}
 use Rattle.sheet.specs.declared.Line.{Line}
-use Rattle.sheet.specs.Sheet.{field, kindWord, answerWord, lineText, lineOf, linesText, lastText, sheetText}
+use Rattle.sheet.specs.Sheet.{field, answerWord, lineText, lineOf, linesText, lastText, sheetText}
 use Rattle.sheet.specs.Report.{runText, reportText}
 
 digits : (n k : ℕ) → n < 10 ^ k → 0 < k → length (field n) ≤ k + 1
 digits n k h g = simp length-append (omega (arith, length-decimal n k h g))
-
-length-kind : (kind : ℕ) → length (kindWord kind) ≤ 4
-unfolding kindWord
-length-kind kind =
-    either-way (eqb kind 0) (λ t. rw t (omega arith))
-    (λ f. rw f (either-way (eqb kind 1) (λ t. rw t (omega arith)) (λ g. rw g (omega arith))))
 
 length-answer : (l : Line) → l .answer < 2 ^ 32 → length (answerWord l) ≤ 10
 unfolding answerWord

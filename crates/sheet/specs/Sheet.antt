@@ -7,6 +7,7 @@ use lib.Dec.{eqb}
 use lib.ListN.{getD}
 use Rattle.script.specs.Quote.{quote}
 use Rattle.script.specs.Decimal.{decimal}
+use Rattle.script.specs.Kind.{kindWord}
 use Rattle.runfile.specs.Layout.{callOf}
 use Rattle.run.specs.declared.Trace.{Trace}
 use Rattle.sheet.specs.declared.Line.{Line}
@@ -20,9 +21,6 @@ spaced text = text ++ quote " "
 
 abbrev pub field : ℕ → List ℕ
 field x = spaced (decimal x)
-
-unfoldable pub kindWord : ℕ → List ℕ
-kindWord kind = cond (eqb kind 0) (quote "read") (cond (eqb kind 1) (quote "set") (quote "swap"))
 
 -- true or false for set, a number for read and swap, `open` if not ended
 unfoldable pub answerWord : Line → List ℕ

@@ -3,11 +3,12 @@ ghost use mathlib.Core.Path.{_≡_};
 ghost use Prim.Native.Nat.{_-_, _≤_};
 ghost use lib.ListN.{getD};
 ghost use Rattle.script.specs.Wrote.{Wrote};
-ghost use Rattle.sheet.specs.Sheet.{Answers, field, kindWord, answerWord, lineText, lineOf, linesText, lastText, sheetText};
+ghost use Rattle.sheet.specs.Sheet.{Answers, field, answerWord, lineText, lineOf, linesText, lastText, sheetText};
 use crate::Line;
 use run::Trace;
 use runfile::call_at;
 use script::decimal;
+use script::kind;
 use script::put;
 use script::word;
 
@@ -17,16 +18,6 @@ fn put_field(out: &mut [u8], at: usize, x: u32) -> usize
 {
     let o = decimal(out, at, x);
     put(out, o, b' ')
-}
-
-fn put_kind(out: &mut [u8], at: usize, kind: u32) -> usize
-    ensures { λ r. ⌜ Wrote (now (out .entry)) (now (out .exit)) at r (kindWord kind) ⌝ }
-{
-    match kind {
-        0 => word(out, at, b"read"),
-        1 => word(out, at, b"set"),
-        _ => word(out, at, b"swap"),
-    }
 }
 
 fn put_answer(out: &mut [u8], at: usize, l: Line) -> usize
@@ -52,7 +43,7 @@ fn put_line(out: &mut [u8], at: usize, l: Line) -> usize
     let o1 = put_field(out, at, l.place);
     let o2 = put_field(out, o1, l.station);
     let o3 = put_field(out, o2, l.call);
-    let o4 = put_kind(out, o3, l.kind);
+    let o4 = kind(out, o3, l.kind);
     let o5 = put(out, o4, b' ');
     let o6 = put_answer(out, o5, l);
     let o7 = put(out, o6, b' ');

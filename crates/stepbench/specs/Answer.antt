@@ -11,9 +11,9 @@ use Rattle.runfile.specs.declared.WriteAnswer.{WriteAnswer}
 use Rattle.runfile.specs.Reading.{readOf}
 use Rattle.runfile.specs.Writing.{writeOf}
 use Rattle.runtext.specs.declared.Printed.{Printed}
-use Rattle.runtext.specs.declared.Parsed.{Parsed}
 use Rattle.runtext.specs.Text.{printOf}
-use Rattle.runtext.specs.Parse.{parseOf}
+use Rattle.drafting.specs.declared.Parsed.{Parsed}
+use Rattle.drafting.specs.Parse.{parseOf}
 use Rattle.stepbench.specs.Word.{wordOf, Apart}
 
 abbrev pub reportedWord : Reported → ℕ

@@ -4,7 +4,7 @@ ghost use mathlib.Core.Path.{_≡_};
 ghost use Rattle.sheet.specs.Report.{reportedOn};
 ghost use Rattle.runfile.specs.Writing.{outOf};
 ghost use Rattle.runtext.specs.Text.{printedOn};
-ghost use Rattle.runtext.specs.Parse.{parsedOn};
+ghost use Rattle.drafting.specs.Parse.{parsedOn};
 ghost use Rattle.stepbench.specs.Word.{wordOf, WordsComeApart};
 ghost use Rattle.stepbench.specs.Answer.{reportWord, printWord, parseWord, writeWord, readWord, xLeft, nLeft, qLeft, tLeft, AnswersComeApart};
 
@@ -44,7 +44,7 @@ pub extern "C" fn stepbench_parse(text: &[u8], out: &mut [u8]) -> u64
     ensures { λ r. ⌜ r ≡ parseWord (now (text .entry)) (now (out .entry)) ⌝ }
     ensures { λ _. ⌜ now (out .exit) ≡ parsedOn (now (text .entry)) (now (out .entry)) ⌝ }
 {
-    let parsed = runtext::parse(text, out);
+    let parsed = drafting::parse(text, out);
     word(parsed.expected, parsed.line, parsed.len)
 }
 

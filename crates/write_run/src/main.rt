@@ -5,7 +5,7 @@ use libc::STDIN_FILENO;
 use libc::STDOUT_FILENO;
 
 fn turned(text: &[u8], file: &mut [u8], line: &mut [u8]) {
-    let r = runtext::parse(text, file);
+    let r = drafting::parse(text, file);
     if r.expected == 0 {
         write_front(STDOUT_FILENO, file, r.len);
         return;

@@ -13,10 +13,12 @@ put-call-spec =
     (λ c κs. search needs)
     (λ c κs. search needs)
     (λ c κs. search needs)
+    (λ c κs. search needs)
     (λ c. search needs)
     (λ c.
-    let c4 = c .before .before in
+    let c5 = c .before .before in
+    let c4 = c5 .before .before .before .before in
     let c3 = c4 .before .before .before .before in
     let c2 = c3 .before .before .before .before in
     let c1 = c2 .before .before .before .before in
-    andThen (andThen (andThen (c1 .decimal .ensures) (c2 .put-kind .ensures)) (c3 .put-values .ensures)) (c4 .put .ensures)))
+    andThen (andThen (andThen (andThen (c1 .decimal .ensures) (c2 .put .ensures)) (c3 .kind .ensures)) (c4 .put-values .ensures)) (c5 .put2 .ensures)))

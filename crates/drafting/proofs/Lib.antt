@@ -1,0 +1,10 @@
+pub mod Numbers
+pub mod Scans
+pub mod Fills
+pub mod Records
+pub mod Writable
+pub mod Sane
+pub mod Parses
+pub mod Goes
+pub mod Back
+pub mod Promised

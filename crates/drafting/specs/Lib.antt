@@ -1,0 +1,5 @@
+pub mod Draft
+pub mod Scan
+pub mod Gather
+pub mod Parse
+pub mod Promise

@@ -1,6 +1,0 @@
-use Rattle.runtext.proofs.Promised.{printed-reads-back}
-use Rattle.runtext.proofs.promises.printed_reads_back.Statement.{statement}
-use Rattle.runtext.proofs.promises.printed_reads_back.Tie as tie
-
-pub printed-reads-back-spec : {M : Type 1} → statement M
-printed-reads-back-spec = tie.close (tie.spec (λ c. printed-reads-back))
