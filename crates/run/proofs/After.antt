@@ -1,7 +1,7 @@
 -- The rows after a turn still hold the book of the run. Assumes nothing.
 use mathlib.Core.Path.{_≡_, refl, _∙_, sym, ap}
 use mathlib.Core.Logic.{_⊎_, inl, inr, ⊎-elim}
-use mathlib.Core.Bool.{Bool, true, false, _||_}
+use mathlib.Core.Bool.{Bool, true, false}
 use mathlib.Core.List.{List}
 use Prim.Native.Nat.{ℕ, _+_, _<_, _≤_}
 use native.Mathlib.Omega.{arith}
@@ -9,7 +9,6 @@ use native.Mathlib.Decide.{ℕ-discrete}
 use lib.Dec.{eqb}
 use lib.ListN.{length, getD, set, length-set}
 use lib.Seq.{getD-set-same, getD-set-other}
-use Rattle.rules.proofs.Facts.{either-way}
 use Rattle.method.specs.declared.Station.{Station}
 use Rattle.method.specs.declared.Answer.{Answer}
 use Rattle.method.specs.declared.Answer.the-variants.{Idle, Going, Ended, Refused}
@@ -19,11 +18,9 @@ use Rattle.bench.specs.declared.Bench.{Bench}
 use Rattle.bench.specs.Record.{stationAt}
 use Rattle.runfile.specs.Layout.{records, callOf}
 use Rattle.run.specs.declared.Tally.{Tally}
-use Rattle.run.specs.declared.Errand.{Errand}
-use Rattle.run.specs.declared.Did.{Did}
 use Rattle.run.specs.Calls.{callAfter, waits}
 use Rattle.run.specs.Rows.{Fits}
-use Rattle.run.specs.Book.{Book, acts, allEnter, bookOf, pointed, notes}
+use Rattle.run.specs.Book.{Book, acts, allEnter, bookOf}
 use Rattle.run.specs.Run.{noted}
 use Rattle.run.specs.Drive.{Rows}
 use Rattle.run.proofs.Points.{within-set}
@@ -61,15 +58,6 @@ enter-leaves {i} {c} {d} {b} {b′} turn js l =
       begun = omega (arith, ap (λ z. z .begun) e, l .begun);
       ended = omega (arith, ap (λ z. z .ended) e, l .ended);
     }
-
--- what a turn did ends no call by itself
-pub notes-ended : (e : Errand) (d : Did) (next wait : List ℕ) (b : Book) → notes e d next wait b .ended ≡ b .ended
-unfolding notes
-notes-ended e d next wait b =
-    let a = acts (e .rests) (e .station) (e .call) (getD next (e .call) 0) (d .own) b in
-    either-way (d .goes || d .ends)
-    (λ t. rw t (sym (ap (λ z. z .ended) (enter-all (e .turn) (pointed e d wait) a)) ∙ acts-ended (e .rests) (e .station) (e .call) (getD next (e .call) 0) (d .own) b))
-    (λ f. rw f (either-way (d .idle) (λ t. rw t refl) (λ g. rw g refl)))
 
 noted-leaves : (table : List ℕ) (w : Bench) (turn i c own : ℕ) (x : Answer) (b : Book) → Leaves i c (callAfter table i c) b (noted table w turn i c own x b)
 unfolding noted

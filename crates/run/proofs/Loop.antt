@@ -16,6 +16,7 @@ use Rattle.method.proofs.Answer.{the-type}
 use Rattle.rules.proofs.Facts.{either-way, and-left, and-right}
 use Rattle.method.specs.declared.Place.{Place}
 use Rattle.method.specs.declared.Place.the-variants.{Rest, At11, At12, At13, At14, At15, At16, At18, At19, At20}
+use Rattle.method.specs.declared.Call.{Call}
 use Rattle.method.specs.declared.Station.{Station}
 use Rattle.method.specs.declared.Answer.{Answer}
 use Rattle.method.specs.declared.Answer.the-variants.{Idle, Going, Ended, Refused}
@@ -23,7 +24,7 @@ use Rattle.method.specs.Record.{num, resting}
 use Rattle.method.specs.Record as Answers
 use Rattle.reach.specs.declared.Moved.{Moved}
 use Rattle.reach.specs.Step.{countLimit}
-use Rattle.reach.specs.Reach.{reaching}
+use Rattle.reach.specs.Reach.{reaching, moveOf}
 use Rattle.bench.specs.declared.Bench.{Bench}
 use Rattle.bench.specs.Record.{stationAt}
 use Rattle.bench.specs.Promise.{turnBy}
@@ -34,14 +35,14 @@ use Rattle.bench.proofs.Promised.{turn-sound}
 use Rattle.runfile.specs.Layout.{records, callOf}
 use Rattle.run.specs.declared.Tally.{Tally}
 use Rattle.run.specs.declared.Errand.{Errand}
-use Rattle.run.specs.declared.Did.{Did}
-use Rattle.run.specs.Calls.{callAfter, offering, onOffer, callFor, errandOf, waits, movesOn, actOf, didOf}
-use Rattle.run.specs.Rows.{Fits}
-use Rattle.run.specs.Book.{Book, idles, ends, oneIdle, oneEnded, bookOf, Holds, notes, MayNote, Noted}
+use Rattle.run.specs.declared.Went.{Went}
+use Rattle.run.specs.Calls.{callAfter, offer, offering, onOffer, callFor, errandOf, leftOf, waits}
+use Rattle.run.specs.Rows.{CallsWithin, Fits}
+use Rattle.run.specs.Book.{Book, idles, oneIdle, bookOf, Holds, Passed, passes, finishes}
 use Rattle.run.specs.Run.{Run, noted, stepRun, runFrom}
-use Rattle.run.specs.Drive.{Good, Rows, Driven}
+use Rattle.run.specs.Drive.{Good, Rows}
 use Rattle.run.proofs.Steps.{moved-turn, idle-turn, acting, ended-noted, going-noted}
-use Rattle.run.proofs.After.{notes-ended, rows-after, counts-after}
+use Rattle.run.proofs.After.{rows-after, counts-after}
 
 abbrev pub state : Bench → ℕ → Book → Run
 state w k b = record { bench = w; turns = k; book = b }
@@ -64,12 +65,12 @@ one-more table turns s k h = ap (runFrom table s) (drop-cons turns k 0 h) ∙ ap
 -- after the last turn it is the run
 pub all-turned : (n : ℕ) (start : Run) (table turns next : List ℕ) (w : Bench) (head latest wait own told point list : List ℕ) (s : Tally) (k : ℕ)
     → Kept n start table turns next w head latest wait own told point list s k → length turns ≤ k
-    → Driven start table turns (record { v = w .v; tally = s }) head latest own told point list
+    → state w (length turns) (bookOf head latest own told point list s) ≡ runFrom table start turns
 unfolding runFrom
 all-turned n start table turns next w head latest wait own told point list s k kept h =
     let e : length turns ≡ k = omega (arith, kept .count) in
-    let r = sym (ap (runFrom table (state w k (bookOf head latest own told point list s))) (ap (λ j. drop j turns) (sym e) ∙ drop-length turns)) ∙ kept .run in
-    record { v = ap (λ z. z .bench .v) r; count = e ∙ ap (λ z. z .turns) r; book = ap (λ z. z .book) r }
+    ap (λ j. state w j (bookOf head latest own told point list s)) e
+    ∙ sym (ap (runFrom table (state w k (bookOf head latest own told point list s))) (ap (λ j. drop j turns) (sym e) ∙ drop-length turns)) ∙ kept .run
 
 -- the station of a saved claim is one of the bench
 saved : (p : Place) (n : ℕ) (t : Station) → Stands countLimit n p t → t .saw .pid ≤ n
@@ -142,6 +143,16 @@ module _ (n : ℕ) (start : Run) (table turns next : List ℕ) (w : Bench) (head
     now = omega arith;
   }
 
+  -- what the book asks of a turn that did not end its call
+  pub may-go : Holds e next head latest own × (Fits point list (s .listed) (k + 1) × (CallsWithin latest × ((length wait ≡ 33) × ((s .begun < 65536) × ((n ≤ 32) × ((t .saw .pid ≤ 32) × (s .idle < 65536)))))))
+  may-go =
+      let q : t .saw .pid ≤ w .n = saved p (w .n) t (facts w (kept .isSound) .station i inside .stands) in
+      (holds, (fits, (kept .rows .within, (kept .rows .waiters, (omega (arith, kept .begun, good .few), (omega (arith, few, kept .same), (omega (arith, q, few), omega (arith, kept .idle, good .few))))))))
+
+  -- and of one that ended it
+  pub may-end : Holds e next head latest own × (Fits point list (s .listed) (k + 1) × (CallsWithin latest × ((s .begun < 65536) × ((s .ended < 65536) × (length told ≡ 1025)))))
+  may-end = (holds, (fits, (kept .rows .within, (omega (arith, kept .begun, good .few), (omega (arith, kept .ended, good .few), kept .rows .tolds)))))
+
   -- a station at rest with no call left leaves all as it was, but for a turn and an idle turn more
   idle-kept : eqb (num p) 0 ≡ true → d ≡ 0 → Kept n start table turns next w head latest wait own told point list (oneIdle s) (k + 1)
   unfolding noted
@@ -181,11 +192,12 @@ module _ (n : ℕ) (start : Run) (table turns next : List ℕ) (w : Bench) (head
       let mine : callFor p d l ≡ d = rw rests refl in
       rw idled (idle-kept rests (sym mine ∙ eqb-true (callFor p d l) 0 (and-right (eqb (num p) 0) (eqb (callFor p d l) 0) both)))
 
-  module _ (to : ℕ) (errand : Errand) (m : Moved) (reaches : to ≡ reaching p i t) (errand-is : errand ≡ e) (moves : m ≡ movesOn table errand (taken w i to)) where
+  module _ (to : ℕ) (o : Call) (m : Moved) (reaches : to ≡ reaching p i t) (offers : o ≡ offer table (cond (eqb (num p) 0) (callFor p d l) 0))
+      (moves : m ≡ moveOf (taken w i to) (o .kind) (o .a) (o .b)) where
     turned : putBack w i to m ≡ turnBy w (offering table i (onOffer p d))
     turned =
         moved-turn w table i d l (kept .isSound) low high inside (good .offers) to (cond (eqb (num p) 0) (callFor p d l) 0) m refl reaches
-        (moves ∙ ap (λ z. movesOn table z (taken w i to)) errand-is)
+        (moves ∙ ap (λ z. moveOf (taken w i to) (z .kind) (z .a) (z .b)) offers)
 
     abbrev w′ : Bench
     w′ = putBack w i to m .bench
@@ -197,26 +209,26 @@ module _ (n : ℕ) (start : Run) (table turns next : List ℕ) (w : Bench) (head
     begins : (m .answer ≡ Idle → ⊥) → eqb (num p) 0 ≡ true → 0 < d
     begins h e = acting w table i d (kept .isSound) low high e (λ q. h (ap (λ x. x .answer) turned ∙ q))
 
-    -- what the turn did, by its answer
-    abbrev did : Answer → Did
-    did x = didOf t (w .v) (w .n) ht x
-
-    noted-end : (result took : ℕ) → m .answer ≡ Ended result took
-        → ends (callFor p d l) result (notes e (did (Ended result took)) next wait b) ≡ noted table w (k + 1) i (callFor p d l) (ht .own) (m .answer) b
-    noted-end result took x-is =
-        ended-noted w table next wait i d l (k + 1) after (kept .rows .mine i inside) result took (ht .own) (w .n) ht b
-        (begins (λ q. let z : _≡_ {A = ℕ} 2 0 = ap (λ x. Answers.told x .case) (sym x-is ∙ q) in omega arith))
-        ∙ ap (λ x. noted table w (k + 1) i (callFor p d l) (ht .own) x b) (sym x-is)
+    pub noted-end : (result took : ℕ) → m .answer ≡ Ended result took
+        → finishes (errandOf p (k + 1) i d l) (record { result = result; own = took }) next b ≡ noted table w (k + 1) i (callFor p d l) (ht .own) (m .answer) b
+    noted-end result took e =
+        ended-noted w table next wait i d l (k + 1) after (kept .rows .mine i inside) result took (ht .own) b
+        (begins (λ q. let z : _≡_ {A = ℕ} 2 0 = ap (λ x. Answers.told x .case) (sym e ∙ q) in omega arith))
+        ∙ ap (λ x. noted table w (k + 1) i (callFor p d l) (ht .own) x b) (sym e)
 
     noted-by : (x : Answer) → OneOf (0 ∷ 1 ∷ 3 ∷ []) (tagOf the-type x) → m .answer ≡ x
-        → notes e (did x) next wait b ≡ noted table w (k + 1) i (callFor p d l) (ht .own) x b
-    unfolding notes actOf noted
-    noted-by Idle f x-is = refl
-    noted-by Going f x-is =
-        going-noted w table next wait i d l (k + 1) after (kept .rows .mine i inside) (kept .rows .waiting) few ht b
-        (begins (λ q. let z : _≡_ {A = ℕ} 1 0 = ap (λ x. Answers.told x .case) (sym x-is ∙ q) in omega arith))
-    noted-by (Ended result took) f x-is = absurd (⊎-elim (λ q. omega arith) (λ g. ⊎-elim (λ q. omega arith) (λ q. omega arith) g) f)
-    noted-by (Refused number) f x-is = refl
+        → passes x (errandOf p (k + 1) i d l) (leftOf t (w .v) (ht .own) (w .n)) next wait b ≡ noted table w (k + 1) i (callFor p d l) (ht .own) x b
+    unfolding passes noted
+    noted-by Idle f e = refl
+    noted-by Going f e =
+        going-noted w table next wait i d l (k + 1) after (kept .rows .mine i inside) (kept .rows .waiting) few (ht .own) b
+        (begins (λ q. let z : _≡_ {A = ℕ} 1 0 = ap (λ x. Answers.told x .case) (sym e ∙ q) in omega arith))
+    noted-by (Ended result took) f e = absurd (⊎-elim (λ q. omega arith) (λ g. ⊎-elim (λ q. omega arith) (λ q. omega arith) g) f)
+    noted-by (Refused number) f e = refl
+
+    pub noted-went : OneOf (0 ∷ 1 ∷ 3 ∷ []) (tagOf the-type (m .answer))
+        → passes (m .answer) (errandOf p (k + 1) i d l) (leftOf t (w .v) (ht .own) (w .n)) next wait b ≡ noted table w (k + 1) i (callFor p d l) (ht .own) (m .answer) b
+    noted-went f = noted-by (m .answer) f refl
 
     -- the step of the run
     stepped : (b′ : Book) → b′ ≡ noted table w (k + 1) i (callFor p d l) (ht .own) (m .answer) b → state w′ (k + 1) b′ ≡ stepRun table (state w k b) i
@@ -250,46 +262,25 @@ module _ (n : ℕ) (start : Run) (table turns next : List ℕ) (w : Bench) (head
         let z : stationAt w′ i ≡ ht = getD-set-same (w .stations) i ht (resting 0) (omega (arith, inside, kept .rows .stations)) in
         rw z at (r .1 .1 .0)
 
-    module _ (done : Did) (done-is : done ≡ didOf t (w .v) n ht (m .answer)) where
-      did-is : done ≡ did (m .answer)
-      did-is = done-is ∙ ap (λ j. didOf t (w .v) j ht (m .answer)) (sym (kept .same))
+    -- a turn that did not end its call, by what the book then holds
+    pub after-going : (errand : Errand) (went : Went) (r : Tally) (waiting : ℕ) (head′ latest′ own′ point′ list′ : List ℕ)
+        → OneOf (0 ∷ 1 ∷ 3 ∷ []) (tagOf the-type (m .answer)) → errand ≡ e → went ≡ leftOf t (w .v) (ht .own) n → waiting ≡ waits ht
+        → Passed (m .answer) errand went s r next head latest wait own point list head′ latest′ own′ point′ list′ → Fits point′ list′ (r .listed) (errand .turn)
+        → Kept n start table turns next w′ head′ latest′ (set wait i waiting) own′ told point′ list′ r (k + 1)
+    unfolding Passed
+    after-going errand went r waiting head′ latest′ own′ point′ list′ f errand-is left-is waits-is passed fit =
+        rw waits-is
+        (kept-next head′ latest′ own′ told point′ list′ r
+        (passed told ∙ ap (λ x. passes (m .answer) x went next wait b) errand-is
+        ∙ ap (λ x. passes (m .answer) e x next wait b) (left-is ∙ ap (leftOf t (w .v) (ht .own)) (sym (kept .same))) ∙ noted-went f)
+        (rw errand-is at fit))
 
-      -- there is room for it in the rows
-      pub may-note : MayNote errand done s next head latest wait own point list
-      may-note =
-          let q : t .saw .pid ≤ w .n = saved p (w .n) t (facts w (kept .isSound) .station i inside .stands) in
-          rw errand-is
-          (record {
-            holds = holds;
-            fits = fits;
-            within = kept .rows .within;
-            waiters = kept .rows .waiters;
-            begun = omega (arith, kept .begun, good .few);
-            idle = omega (arith, kept .idle, good .few);
-            few = omega (arith, ap (λ z. z .n) did-is, few);
-            pid = omega (arith, ap (λ z. z .saw .pid) did-is, q, few);
-          })
-
-      -- the rows after a turn that did not end its call
-      module _ (r : Tally) (head′ latest′ own′ point′ list′ : List ℕ)
-          (noted-is : Noted errand done s r next head latest wait own point list head′ latest′ own′ point′ list′) (fit : Fits point′ list′ (r .listed) (errand .turn)) where
-        book : (x : Answer) → m .answer ≡ x → bookOf head′ latest′ own′ told point′ list′ r ≡ notes e (did x) next wait b
-        unfolding Noted
-        book x x-is = noted-is told ∙ ap (λ z. notes z done next wait b) errand-is ∙ ap (λ z. notes e z next wait b) (did-is ∙ ap did x-is)
-
-        waits-is : done .waits ≡ waits ht
-        waits-is = ap (λ z. z .waits) did-is
-
-        pub after-going : OneOf (0 ∷ 1 ∷ 3 ∷ []) (tagOf the-type (m .answer)) → Kept n start table turns next w′ head′ latest′ (set wait i (done .waits)) own′ told point′ list′ r (k + 1)
-        after-going f = rw waits-is (kept-next head′ latest′ own′ told point′ list′ r (book (m .answer) refl ∙ noted-by (m .answer) f refl) (rw errand-is at fit))
-
-        -- as many calls have ended as before
-        pub may-end : r .ended < 65536
-        may-end = omega (arith, ap (λ z. z .ended) (book (m .answer) refl), notes-ended e (did (m .answer)) next wait b, kept .ended, good .few)
-
-        -- and after one that ended it
-        pub after-end : (result took : ℕ) (r′ : Tally) → m .answer ≡ Ended result took → r′ ≡ oneEnded r
-            → Kept n start table turns next w′ head′ latest′ (set wait i (done .waits)) own′ (set told (errand .call) (result + 1)) point′ list′ r′ (k + 1)
-        after-end result took r′ x-is ended =
-            rw (waits-is, errand-is, ended)
-            (kept-next head′ latest′ own′ (set told (e .call) (result + 1)) point′ list′ (oneEnded r) (ap (ends (e .call) result) (book (Ended result took) x-is) ∙ noted-end result took x-is) (rw errand-is at fit))
+    -- and one that ended it
+    pub after-end : (errand : Errand) (result took waiting : ℕ) (r : Tally) (head′ latest′ own′ told′ point′ list′ : List ℕ)
+        → m .answer ≡ Ended result took → errand ≡ e → waiting ≡ waits ht
+        → bookOf head′ latest′ own′ told′ point′ list′ r ≡ finishes errand (record { result = result; own = took }) next b → Fits point′ list′ (r .listed) (errand .turn)
+        → Kept n start table turns next w′ head′ latest′ (set wait i waiting) own′ told′ point′ list′ r (k + 1)
+    after-end errand result took waiting r head′ latest′ own′ told′ point′ list′ x-is errand-is waits-is finished fit =
+        rw waits-is
+        (kept-next head′ latest′ own′ told′ point′ list′ r
+        (finished ∙ ap (λ x. finishes x (record { result = result; own = took }) next b) errand-is ∙ noted-end result took x-is) (rw errand-is at fit))

@@ -9,10 +9,6 @@ use mir.Val.{Fits}
 pub station-fits : {i : ℕ} → i < 33 → (Fits w64 i × Fits w64 (i * 4)) × (Fits w64 (i * 8) × Fits w64 (i * 48))
 station-fits h = ((omega arith, omega arith), (omega arith, omega arith))
 
--- a call's number, and where its answer stands
-pub call-fits : {c : ℕ} → c < 1025 → Fits w64 c × Fits w64 (c * 8)
-call-fits h = (omega arith, omega arith)
-
 -- a turn's number
 pub turn-fits : {k m : ℕ} → k < m → m ≤ 40960 → Fits w64 (k + 1) × Fits w32 (k + 1)
 turn-fits h few = (omega arith, omega arith)

@@ -17,15 +17,16 @@ use Rattle.runfile.specs.Reading.{readOf, tableOf, turnsOf}
 use Rattle.run.specs.Calls.{callAfter, waits, Linked}
 use Rattle.run.specs.Rows.{pointed, Fits}
 use Rattle.run.specs.Book.{bookOf}
-use Rattle.run.specs.Run.{Run, firstCalls, emptyBook, runFrom}
+use Rattle.run.specs.Run.{firstCalls, emptyBook, runFrom}
 use Rattle.run.specs.declared.Drove.{Drove}
-use Rattle.run.specs.Drive.{noTally, Rows, Ready, starting, Driven, Blank, runOfFile}
+use Rattle.run.specs.Drive.{noTally, Rows, Ready, Driven, Blank, runOfFile}
 use Rattle.run.proofs.Steps.{mine-after}
 use Rattle.run.proofs.Files.{reads-well}
+use Rattle.run.proofs.Loop.{state}
 
--- what is left for the file's report: V, the counts and the rows by call
+-- what is left for the file's report: the bench, the counts and the rows by call
 pub record Ran (file : List ℕ) (r : Drove) (own told point list : List ℕ) : Type 0 where
-  pub v : r .v ≡ runOfFile file .bench .v
+  pub bench : r .bench ≡ runOfFile file .bench
   pub owns : own ≡ runOfFile file .book .own
   pub tolds : told ≡ runOfFile file .book .told
   pub points : point ≡ runOfFile file .book .point
@@ -132,23 +133,23 @@ module _ (file : List ℕ) (well : readOf file .refused ≡ 0) (next₀ head₀ 
 
   -- what the loop leaves is the file's run
   through : (r : Drove) (head′ latest′ own′ told′ point′ list′ : List ℕ)
-      → Driven (starting w head latest own told point list) (tableOf file) (turnsOf file) r head′ latest′ own′ told′ point′ list′ → r .tally .listed ≤ 1025
+      → Driven w (tableOf file) (turnsOf file) head latest own told point list r head′ latest′ own′ told′ point′ list′ → r .tally .listed ≤ 1025
       → Ran file r own′ told′ point′ list′
+  unfolding Driven
   through r head′ latest′ own′ told′ point′ list′ d room =
-      let same : runFrom (tableOf file) (starting w head latest own told point list) (turnsOf file) ≡ runOfFile file =
-      ap (λ b. runFrom (tableOf file) (record { bench = w; turns = 0; book = b }) (turnsOf file)) empty
-      ∙ ap (λ m. runFrom (tableOf file) (record { bench = m .bench; turns = 0; book = emptyBook (tableOf file) }) (turnsOf file)) (sym is-fresh) in
-      let book = d .book ∙ ap (λ s. s .book) same in
+      let e : state (r .bench) (length (turnsOf file)) (bookOf head′ latest′ own′ told′ point′ list′ (r .tally)) ≡ runOfFile file =
+      d ∙ ap (λ b. runFrom (tableOf file) (state w 0 b) (turnsOf file)) empty
+      ∙ ap (λ m. runFrom (tableOf file) (state (m .bench) 0 (emptyBook (tableOf file))) (turnsOf file)) (sym is-fresh) in
       record {
-        v = d .v ∙ ap (λ s. s .bench .v) same;
-        owns = ap (λ b. b .own) book;
-        tolds = ap (λ b. b .told) book;
-        points = ap (λ b. b .point) book;
-        lists = ap (λ b. b .list) book;
-        idle = ap (λ b. b .idle) book;
-        begun = ap (λ b. b .begun) book;
-        ended = ap (λ b. b .ended) book;
-        turns = d .count ∙ ap (λ s. s .turns) same;
+        bench = ap (λ s. s .bench) e;
+        owns = ap (λ s. s .book .own) e;
+        tolds = ap (λ s. s .book .told) e;
+        points = ap (λ s. s .book .point) e;
+        lists = ap (λ s. s .book .list) e;
+        idle = ap (λ s. s .book .idle) e;
+        begun = ap (λ s. s .book .begun) e;
+        ended = ap (λ s. s .book .ended) e;
+        turns = ap (λ s. s .turns) e;
         room = room;
       }
 
@@ -158,6 +159,6 @@ module _ (file : List ℕ) (well : readOf file .refused ≡ 0) (next₀ head₀ 
     starts = rw (same, calls, moves) from-here
 
     pub ran-through : (r : Drove) (head′ latest′ own′ told′ point′ list′ : List ℕ)
-        → Driven (starting w′ head latest own told point list) table turns r head′ latest′ own′ told′ point′ list′ → r .tally .listed ≤ 1025
+        → Driven w′ table turns head latest own told point list r head′ latest′ own′ told′ point′ list′ → r .tally .listed ≤ 1025
         → Ran file r own′ told′ point′ list′
     ran-through r head′ latest′ own′ told′ point′ list′ d room = through r head′ latest′ own′ told′ point′ list′ (rw (same, calls, moves) at d) room

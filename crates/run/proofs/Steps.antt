@@ -30,9 +30,9 @@ use Rattle.bench.proofs.Sounds.{ready-at}
 use Rattle.bench.proofs.Bridge.{taken, putBack, step-law}
 use Rattle.runfile.specs.First.{firstFrom}
 use Rattle.runfile.specs.Layout.{records, callOf}
-use Rattle.run.specs.Calls.{madeBy, callAfter, offer, offering, onOffer, callFor, errandOf, waits, actOf, didOf}
+use Rattle.run.specs.Calls.{madeBy, callAfter, offer, offering, onOffer, callFor, errandOf, waits, leftOf}
 use Rattle.run.specs.Rows.{waiters}
-use Rattle.run.specs.Book.{Book, acts, allEnter, ends, notes}
+use Rattle.run.specs.Book.{Book, acts, allEnter, ends, raisers, passes, finishes}
 use Rattle.run.specs.Run.{noted}
 use Rattle.run.proofs.Links.{none-after}
 
@@ -153,14 +153,14 @@ module _ (w : Bench) (table next wait : List ℕ) (i d l turn : ℕ)
       rw (e, after d (h e) (k .1), k .0))
       (λ e. rw e)
 
-  pub ended-noted : (result took own n : ℕ) (ht : Station) (b : Book) → (eqb (num here) 0 ≡ true → 0 < d)
-      → ends (callFor here d l) result (notes (errandOf here turn i d l) (didOf t (w .v) n ht (Ended result took)) next wait b) ≡ noted table w turn i (callFor here d l) own (Ended result took) b
-  unfolding notes actOf noted points
-  ended-noted result took own n ht b h =
+  pub ended-noted : (result took own : ℕ) (b : Book) → (eqb (num here) 0 ≡ true → 0 < d)
+      → finishes (errandOf here turn i d l) (record { result = result; own = took }) next b ≡ noted table w turn i (callFor here d l) own (Ended result took) b
+  unfolding finishes noted points
+  ended-noted result took own b h =
       ap (λ z. ends (callFor here d l) result (allEnter turn (cond (eqb (num here) 0) (i ∷ []) []) z)) (same-acts took b h)
 
   module _ (seen : (j : ℕ) → j < 33 → getD wait j 0 ≡ waits (stationAt w j)) (few : w .n < 33) where
-    same-points : cond (raises here (w .v) t) (t .saw .pid ∷ waiters wait (t .saw .pid) (t .saw .seq) (w .n)) [] ≡ points oneWord (stationAt w) (w .n) i here (w .v) t Going
+    same-points : raisers (leftOf t (w .v) 0 (w .n)) wait ≡ points oneWord (stationAt w) (w .n) i here (w .v) t Going
     unfolding points
     same-points =
         either-way (raises here (w .v) t)
@@ -171,9 +171,9 @@ module _ (w : Bench) (table next wait : List ℕ) (i d l turn : ℕ)
         rw e (ap (λ z. t .saw .pid ∷ z) (all-wait w wait i t seen (w .n) few (omega arith))))
         (λ e. rw e)
 
-    pub going-noted : (ht : Station) (b : Book) → (eqb (num here) 0 ≡ true → 0 < d)
-        → notes (errandOf here turn i d l) (didOf t (w .v) (w .n) ht Going) next wait b ≡ noted table w turn i (callFor here d l) (ht .own) Going b
-    unfolding notes actOf noted
-    going-noted ht b h =
-        ap (λ z. allEnter turn (cond (raises here (w .v) t) (t .saw .pid ∷ waiters wait (t .saw .pid) (t .saw .seq) (w .n)) []) z) (same-acts (ht .own) b h)
-        ∙ ap (λ js. allEnter turn js (acts (eqb (num here) 0) i (callFor here d l) (callAfter table i (callFor here d l)) (ht .own) b)) same-points
+    pub going-noted : (own : ℕ) (b : Book) → (eqb (num here) 0 ≡ true → 0 < d)
+        → passes Going (errandOf here turn i d l) (leftOf t (w .v) own (w .n)) next wait b ≡ noted table w turn i (callFor here d l) own Going b
+    unfolding passes noted
+    going-noted own b h =
+        ap (λ z. allEnter turn (raisers (leftOf t (w .v) 0 (w .n)) wait) z) (same-acts own b h)
+        ∙ ap (λ js. allEnter turn js (acts (eqb (num here) 0) i (callFor here d l) (callAfter table i (callFor here d l)) own b)) same-points

@@ -31,8 +31,8 @@ drawn d calls turns =
       begun = d .tally .begun;
       ended = d .tally .ended;
       listed = d .tally .listed;
-      val = d .v .second;
-      seq = d .v .first;
+      val = d .bench .v .second;
+      seq = d .bench .v .first;
     }
 
 module _ (file own told point list : List ℕ) (d : Drove) (ran : Ran file d own told point list) (long : length list ≡ places) where
@@ -50,8 +50,8 @@ module _ (file own told point list : List ℕ) (d : Drove) (ran : Ran file d own
         begun = ran .begun i;
         ended = ran .ended i;
         listed = listed i;
-        val = ran .v i .second;
-        seq = ran .v i .first;
+        val = ran .bench i .v .second;
+        seq = ran .bench i .v .first;
       }
 
   in-row : cleared list (d .tally .listed) ≡ padded (runOfFile file .book .list)

@@ -1,12 +1,15 @@
 -- The book that is kept of a run, by stations and by calls: document 01, "Order of effect" and "Report". Assumes nothing.
 use mathlib.Core.Path.{_≡_}
-use mathlib.Core.Bool.{Bool, cond, _&&_, _||_}
+use mathlib.Core.Bool.{Bool, cond}
 use mathlib.Core.List.{List, [], _∷_}
-use Rattle.run.specs.Rows.{enterCall, waiters, callsOf, CallsWithin, Fits}
-use Prim.Native.Nat.{ℕ, _+_, _<_, _≤_}
+use Rattle.run.specs.Rows.{enterCall, waiters}
+use Prim.Native.Nat.{ℕ, _+_, _<_}
+use Rattle.method.specs.declared.Answer.{Answer}
+use Rattle.method.specs.declared.Answer.the-variants.{Idle, Going, Ended, Refused}
 use Rattle.run.specs.declared.Tally.{Tally}
 use Rattle.run.specs.declared.Errand.{Errand}
-use Rattle.run.specs.declared.Did.{Did}
+use Rattle.run.specs.declared.Went.{Went}
+use Rattle.run.specs.declared.Finish.{Finish}
 use lib.ListN.{length, getD, set, take}
 
 -- by station: its next call and its latest one. By call: own turns so far, 0 till it begins; 0 till it ends and then its answer plus 1; the turn of its point, 0 till it has one.
@@ -111,10 +114,6 @@ idles b =
 abbrev pub oneIdle : Tally → Tally
 oneIdle s = record { idle = s .idle + 1; begun = s .begun; ended = s .ended; listed = s .listed }
 
--- and with an ended call more
-abbrev pub oneEnded : Tally → Tally
-oneEnded s = record { idle = s .idle; begun = s .begun; ended = s .ended + 1; listed = s .listed }
-
 -- the book in rows of numbers, with its counts
 abbrev pub bookOf : List ℕ → List ℕ → List ℕ → List ℕ → List ℕ → List ℕ → Tally → Book
 bookOf upcoming latest own told point list s =
@@ -146,34 +145,30 @@ Acted e s r turns next head latest own head′ latest′ own′ =
     → bookOf head′ latest′ own′ told point list r
     ≡ acts (e .rests) (e .station) (e .call) (getD next (e .call) 0) turns (bookOf head latest own told point list s)
 
--- the stations whose calls have their point in the errand's turn: those that it raised V.seq for, or its own, whose call began and ended in it
-abbrev pub pointed : Errand → Did → List ℕ → List ℕ
-pointed e d wait =
-    cond (d .raises) (d .saw .pid ∷ waiters wait (d .saw .pid) (d .saw .seq) (d .n)) (cond (d .ends && e .rests) (e .station ∷ []) [])
+-- the stations whose calls have their point where V.seq was raised
+abbrev pub raisers : Went → List ℕ → List ℕ
+raisers w wait = cond (w .raises) (w .saw .pid ∷ waiters wait (w .saw .pid) (w .saw .seq) (w .n)) []
 
--- and those calls, where the station's own is not its latest yet
-abbrev pub pointedCalls : Errand → Did → List ℕ → List ℕ → List ℕ
-pointedCalls e d latest wait =
-    cond (d .raises) (callsOf latest (d .saw .pid ∷ waiters wait (d .saw .pid) (d .saw .seq) (d .n))) (cond (d .ends && e .rests) (e .call ∷ []) [])
+-- the rows after an operation that did not end the errand's call, whatever has been told
+unfoldable pub Gone : Errand → Went → Tally → Tally → List ℕ → List ℕ → List ℕ → List ℕ → List ℕ → List ℕ → List ℕ → List ℕ → List ℕ → List ℕ → List ℕ → List ℕ → Type 0
+Gone e w s r next head latest wait own point list head′ latest′ own′ point′ list′ =
+    (told : List ℕ)
+    → bookOf head′ latest′ own′ told point′ list′ r
+    ≡ allEnter (e .turn) (raisers w wait) (acts (e .rests) (e .station) (e .call) (getD next (e .call) 0) (w .own) (bookOf head latest own told point list s))
 
--- the book after the errand's turn, but for the answer of a call that ended in it
-unfoldable pub notes : Errand → Did → List ℕ → List ℕ → Book → Book
-notes e d next wait b =
-    cond (d .goes || d .ends) (allEnter (e .turn) (pointed e d wait) (acts (e .rests) (e .station) (e .call) (getD next (e .call) 0) (d .own) b))
-    (cond (d .idle) (idles b) b)
+-- the book after the operation that ended the errand's call
+unfoldable pub finishes : Errand → Finish → List ℕ → Book → Book
+finishes e f next b =
+    ends (e .call) (f .result)
+    (allEnter (e .turn) (cond (e .rests) (e .station ∷ []) []) (acts (e .rests) (e .station) (e .call) (getD next (e .call) 0) (f .own) b))
 
--- there is room for what a turn did
-pub record MayNote (e : Errand) (d : Did) (s : Tally) (next head latest wait own point list : List ℕ) : Type 0 where
-  pub holds : Holds e next head latest own
-  pub fits : Fits point list (s .listed) (e .turn)
-  pub within : CallsWithin latest
-  pub waiters : length wait ≡ 33
-  pub begun : s .begun < 65536
-  pub idle : s .idle < 65536
-  pub few : d .n ≤ 32
-  pub pid : d .saw .pid ≤ 32
+-- the same for a turn that did not end its call, by its answer
+unfoldable pub passes : Answer → Errand → Went → List ℕ → List ℕ → Book → Book
+passes Idle e w next wait b = idles b
+passes Going e w next wait b = allEnter (e .turn) (raisers w wait) (acts (e .rests) (e .station) (e .call) (getD next (e .call) 0) (w .own) b)
+passes (Ended result own) e w next wait b = b
+passes (Refused number) e w next wait b = b
 
--- the rows after the errand's turn, whatever has been told
-unfoldable pub Noted : Errand → Did → Tally → Tally → List ℕ → List ℕ → List ℕ → List ℕ → List ℕ → List ℕ → List ℕ → List ℕ → List ℕ → List ℕ → List ℕ → List ℕ → Type 0
-Noted e d s r next head latest wait own point list head′ latest′ own′ point′ list′ =
-    (told : List ℕ) → bookOf head′ latest′ own′ told point′ list′ r ≡ notes e d next wait (bookOf head latest own told point list s)
+unfoldable pub Passed : Answer → Errand → Went → Tally → Tally → List ℕ → List ℕ → List ℕ → List ℕ → List ℕ → List ℕ → List ℕ → List ℕ → List ℕ → List ℕ → List ℕ → List ℕ → Type 0
+Passed x e w s r next head latest wait own point list head′ latest′ own′ point′ list′ =
+    (told : List ℕ) → bookOf head′ latest′ own′ told point′ list′ r ≡ passes x e w next wait (bookOf head latest own told point list s)

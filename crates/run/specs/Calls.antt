@@ -1,21 +1,15 @@
 -- Document 01, "Run file": a station makes its calls in table order, and a turn of a station with no call left is offered none. Calls go by their numbers in the table, from 1.
 -- Assumes nothing.
 use mathlib.Core.Path.{_≡_}
-use mathlib.Core.Bool.{Bool, true, false, cond, _&&_}
+use mathlib.Core.Bool.{Bool, cond}
 use mathlib.Core.List.{List}
 use Prim.Native.Nat.{ℕ, suc, _+_, _-_, _<_, _≤_}
 use lib.Dec.{ltb, eqb}
 use Rattle.card.specs.declared.Halves.{Halves}
 use Rattle.method.specs.declared.Station.{Station}
-use Rattle.method.specs.declared.Answer.{Answer}
-use Rattle.method.specs.declared.Answer.the-variants.{Idle, Going, Ended, Refused}
 use Rattle.method.specs.Effect.{raises}
-use Rattle.reach.specs.declared.Reach.{Reach}
-use Rattle.reach.specs.declared.Moved.{Moved}
-use Rattle.reach.specs.Reach.{moveOf}
 use Rattle.run.specs.declared.Errand.{Errand}
-use Rattle.run.specs.declared.Act.{Act}
-use Rattle.run.specs.declared.Did.{Did}
+use Rattle.run.specs.declared.Went.{Went}
 use lib.ListN.{getD}
 use Rattle.method.specs.declared.Place.{Place}
 use Rattle.method.specs.declared.Call.{Call}
@@ -54,33 +48,8 @@ errandOf p turn i upcoming latest = record { turn = turn; station = i; call = ca
 abbrev pub waits : Station → ℕ
 waits t = cond (ltb (num (t .place)) 11) 0 (t .s + 2)
 
--- the move of what the errand's turn reaches
-abbrev pub movesOn : List ℕ → Errand → Reach → Moved
-movesOn table e g =
-    let o = offer table (cond (e .rests) (e .call) 0) in
-    moveOf g (o .kind) (o .a) (o .b)
-
--- what a turn was, by its answer and the own turns that its station is left with
-unfoldable pub actOf : Answer → ℕ → Act
-actOf Idle made = record { goes = false; ends = false; idle = true; own = 0 }
-actOf Going made = record { goes = true; ends = false; idle = false; own = made }
-actOf (Ended result own) made = record { goes = false; ends = true; idle = false; own = own }
-actOf (Refused number) made = record { goes = false; ends = false; idle = false; own = 0 }
-
--- what a turn of n stations did, that read V as v and took a station from t to the record after, by its answer
-abbrev pub didOf : Station → Halves → ℕ → Station → Answer → Did
-didOf t v n after x =
-    let a = actOf x (after .own) in
-    record {
-      goes = a .goes;
-      ends = a .ends;
-      idle = a .idle;
-      own = a .own;
-      raises = a .goes && raises (t .place) v t;
-      saw = t .saw;
-      n = n;
-      waits = waits after;
-    }
+abbrev pub leftOf : Station → Halves → ℕ → ℕ → Went
+leftOf t v own n = record { own = own; raises = raises (t .place) v t; saw = t .saw; n = n }
 
 -- every call's station is one of 0 to 32
 abbrev pub StationsWithin : List ℕ → Type 0

@@ -49,15 +49,11 @@ pub record Ready (w : Bench) (table turns next head latest wait own told point l
   pub linked : Linked table next head 0
   pub rows : Rows w table next head latest wait own told point list noTally
 
--- the run before its first turn
-abbrev pub starting : Bench → List ℕ → List ℕ → List ℕ → List ℕ → List ℕ → List ℕ → Run
-starting w head latest own told point list = record { bench = w; turns = 0; book = bookOf head latest own told point list noTally }
-
--- V, the counts and the rows are those of the run
-pub record Driven (start : Run) (table turns : List ℕ) (r : Drove) (head latest own told point list : List ℕ) : Type 0 where
-  pub v : r .v ≡ runFrom table start turns .bench .v
-  pub count : length turns ≡ runFrom table start turns .turns
-  pub book : bookOf head latest own told point list (r .tally) ≡ runFrom table start turns .book
+-- the bench, the counts and the rows are those of the run
+unfoldable pub Driven : Bench → List ℕ → List ℕ → List ℕ → List ℕ → List ℕ → List ℕ → List ℕ → List ℕ → Drove → List ℕ → List ℕ → List ℕ → List ℕ → List ℕ → List ℕ → Type 0
+Driven w table turns head latest own told point list r head′ latest′ own′ told′ point′ list′ =
+    record { bench = r .bench; turns = length turns; book = bookOf head′ latest′ own′ told′ point′ list′ (r .tally) }
+    ≡ runFrom table (record { bench = w; turns = 0; book = bookOf head latest own told point list noTally }) turns
 
 -- all rows are zero, but for the list, which has its length
 pub record Blank (next head latest wait own told point list : List ℕ) : Type 0 where

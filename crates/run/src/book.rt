@@ -4,12 +4,14 @@ ghost use mathlib.Core.Bool.{cond};
 ghost use mathlib.Core.List.{[], _∷_};
 ghost use Prim.Native.Nat.{_<_, _≤_};
 ghost use lib.ListN.{length};
-ghost use Rattle.run.specs.Book.{oneIdle, oneEnded, Holds, Acted, pointedCalls, MayNote, Noted};
+ghost use Rattle.run.specs.Book.{oneIdle, Holds, Acted, raisers, Gone, bookOf, finishes, Passed};
 ghost use Rattle.run.specs.Rows.{rows, enterCall, allEnterCalls, callsOf, waiters, CallsWithin, Fits};
-use crate::Did;
 use crate::Errand;
+use crate::Finish;
 use crate::Tally;
+use crate::Went;
 use card::Claim;
+use method::Answer;
 
 // Call c has its point in this turn, if it is one and has none yet; hands back how many are listed.
 pub(crate) fn enter(point: &mut [u32], list: &mut [u32], listed: u32, c: u32, turn: u32) -> u32
@@ -92,33 +94,102 @@ fn acted(
     s
 }
 
-// The calls that have their point in a turn: those that it raised V.seq for, or its own that began and ended in it.
-fn entered(
-    e: Errand,
-    d: Did,
+// The calls that have their point where V.seq was raised; none where it was not.
+fn raised(
+    w: Went,
+    turn: u32,
     latest: &[u32],
     wait: &[u32],
     point: &mut [u32],
     list: &mut [u32],
     listed: u32,
 ) -> u32
-    requires { ⌜ Fits (now point) (now list) listed (e .turn) × ((e .call < 1025) × (CallsWithin (now latest) × ((length (now latest) ≡ 33) × ((length (now wait) ≡ 33) × ((d .n ≤ 32) × (d .saw .pid ≤ 32)))))) ⌝ }
-    ensures { λ r. ⌜ rows (now (point .exit)) (now (list .exit)) r ≡ allEnterCalls (e .turn) (pointedCalls e d (now (latest .entry)) (now (wait .entry))) (rows (now (point .entry)) (now (list .entry)) listed) ⌝ }
+    requires { ⌜ Fits (now point) (now list) listed turn × (CallsWithin (now latest) × ((length (now latest) ≡ 33) × ((length (now wait) ≡ 33) × ((w .n ≤ 32) × (w .saw .pid ≤ 32))))) ⌝ }
+    ensures { λ r. ⌜ rows (now (point .exit)) (now (list .exit)) r ≡ allEnterCalls turn (callsOf (now (latest .entry)) (raisers w (now (wait .entry)))) (rows (now (point .entry)) (now (list .entry)) listed) ⌝ }
+    ensures { λ r. ⌜ Fits (now (point .exit)) (now (list .exit)) r turn ⌝ }
+{
+    let raises = w.raises;
+    let n = w.n;
+    let saw = w.saw;
+    if raises {
+        return raise(latest, wait, n, saw, turn, point, list, listed);
+    }
+    listed
+}
+
+// A turn with an operation that did not end its call.
+fn going(
+    s: Tally,
+    e: Errand,
+    w: Went,
+    next: &[u32],
+    head: &mut [u32],
+    latest: &mut [u32],
+    wait: &[u32],
+    own: &mut [u32],
+    point: &mut [u32],
+    list: &mut [u32],
+) -> Tally
+    requires { ⌜ Holds e (now next) (now head) (now latest) (now own) × (Fits (now point) (now list) (s .listed) (e .turn) × (CallsWithin (now latest) × ((length (now wait) ≡ 33) × ((s .begun < 65536) × ((w .n ≤ 32) × (w .saw .pid ≤ 32)))))) ⌝ }
+    ensures { λ r. ⌜ Gone e w s r (now (next .entry)) (now (head .entry)) (now (latest .entry)) (now (wait .entry)) (now (own .entry)) (now (point .entry)) (now (list .entry)) (now (head .exit)) (now (latest .exit)) (now (own .exit)) (now (point .exit)) (now (list .exit)) ⌝ }
+    ensures { λ r. ⌜ Fits (now (point .exit)) (now (list .exit)) (r .listed) (e .turn) ⌝ }
+{
+    let turn = e.turn;
+    let own_turns = w.own;
+    let a = acted(s, e, own_turns, next, head, latest, own);
+    let listed = raised(w, turn, latest, wait, point, list, a.listed);
+    Tally {
+        idle: a.idle,
+        begun: a.begun,
+        ended: a.ended,
+        listed,
+    }
+}
+
+// A call that ends in its first turn has its point there.
+fn at_once(e: Errand, point: &mut [u32], list: &mut [u32], listed: u32) -> u32
+    requires { ⌜ Fits (now point) (now list) listed (e .turn) × (e .call < 1025) ⌝ }
+    ensures { λ r. ⌜ rows (now (point .exit)) (now (list .exit)) r ≡ allEnterCalls (e .turn) (cond (e .rests) (e .call ∷ []) []) (rows (now (point .entry)) (now (list .entry)) listed) ⌝ }
     ensures { λ r. ⌜ Fits (now (point .exit)) (now (list .exit)) r (e .turn) ⌝ }
 {
     let turn = e.turn;
     let call = e.call;
-    let raises = d.raises;
-    let once = d.ends & e.rests;
-    let n = d.n;
-    let saw = d.saw;
-    if raises {
-        return raise(latest, wait, n, saw, turn, point, list, listed);
-    }
-    if once {
+    let rests = e.rests;
+    if rests {
         return enter(point, list, listed, call, turn);
     }
     listed
+}
+
+// A turn that ended its call with a result.
+pub(crate) fn finished(
+    s: Tally,
+    e: Errand,
+    f: Finish,
+    next: &[u32],
+    head: &mut [u32],
+    latest: &mut [u32],
+    own: &mut [u32],
+    told: &mut [u64],
+    point: &mut [u32],
+    list: &mut [u32],
+) -> Tally
+    requires { ⌜ Holds e (now next) (now head) (now latest) (now own) × (Fits (now point) (now list) (s .listed) (e .turn) × (CallsWithin (now latest) × ((s .begun < 65536) × ((s .ended < 65536) × (length (now told) ≡ 1025))))) ⌝ }
+    ensures { λ r. ⌜ bookOf (now (head .exit)) (now (latest .exit)) (now (own .exit)) (now (told .exit)) (now (point .exit)) (now (list .exit)) r ≡ finishes e f (now (next .entry)) (bookOf (now (head .entry)) (now (latest .entry)) (now (own .entry)) (now (told .entry)) (now (point .entry)) (now (list .entry)) s) ⌝ }
+    ensures { λ r. ⌜ Fits (now (point .exit)) (now (list .exit)) (r .listed) (e .turn) ⌝ }
+{
+    let c = e.call as usize;
+    let took = f.own;
+    let mark = (f.result as u64) + 1;
+    let a = acted(s, e, took, next, head, latest, own);
+    let listed = at_once(e, point, list, a.listed);
+    told[c] = mark;
+    Tally {
+        idle: a.idle,
+        begun: a.begun,
+        ended: a.ended + 1,
+        listed,
+    }
 }
 
 // A turn passes with nothing to do.
@@ -134,35 +205,12 @@ pub(crate) fn idled(s: Tally) -> Tally
     }
 }
 
-// A call ends.
-pub(crate) fn ended(s: Tally) -> Tally
-    requires { ⌜ s .ended < 65536 ⌝ }
-    ensures { λ r. ⌜ r ≡ oneEnded s ⌝ }
-{
-    Tally {
-        idle: s.idle,
-        begun: s.begun,
-        ended: s.ended + 1,
-        listed: s.listed,
-    }
-}
-
-// A turn that was no operation of a call: idle, or refused, which counts for nothing.
-fn passed(s: Tally, idle: bool) -> Tally
-    requires { ⌜ s .idle < 65536 ⌝ }
-    ensures { λ r. ⌜ r ≡ cond idle (oneIdle s) s ⌝ }
-{
-    if idle {
-        return idled(s);
-    }
-    s
-}
-
-// What a turn did, noted in the rows; the answer of a call that ended is noted by itself.
-pub(crate) fn noted(
+// A turn that did not end its call: idle, an operation after which the call goes on, or refused, which counts for nothing.
+pub(crate) fn went(
     s: Tally,
+    x: Answer,
     e: Errand,
-    d: Did,
+    w: Went,
     next: &[u32],
     head: &mut [u32],
     latest: &mut [u32],
@@ -171,22 +219,14 @@ pub(crate) fn noted(
     point: &mut [u32],
     list: &mut [u32],
 ) -> Tally
-    requires { ⌜ MayNote e d s (now next) (now head) (now latest) (now wait) (now own) (now point) (now list) ⌝ }
-    ensures { λ r. ⌜ Noted e d s r (now (next .entry)) (now (head .entry)) (now (latest .entry)) (now (wait .entry)) (now (own .entry)) (now (point .entry)) (now (list .entry)) (now (head .exit)) (now (latest .exit)) (now (own .exit)) (now (point .exit)) (now (list .exit)) ⌝ }
+    requires { ⌜ Holds e (now next) (now head) (now latest) (now own) × (Fits (now point) (now list) (s .listed) (e .turn) × (CallsWithin (now latest) × ((length (now wait) ≡ 33) × ((s .begun < 65536) × ((w .n ≤ 32) × ((w .saw .pid ≤ 32) × (s .idle < 65536))))))) ⌝ }
+    ensures { λ r. ⌜ Passed x e w s r (now (next .entry)) (now (head .entry)) (now (latest .entry)) (now (wait .entry)) (now (own .entry)) (now (point .entry)) (now (list .entry)) (now (head .exit)) (now (latest .exit)) (now (own .exit)) (now (point .exit)) (now (list .exit)) ⌝ }
     ensures { λ r. ⌜ Fits (now (point .exit)) (now (list .exit)) (r .listed) (e .turn) ⌝ }
 {
-    let acts = d.goes | d.ends;
-    let idle = d.idle;
-    let turns = d.own;
-    if !acts {
-        return passed(s, idle);
-    }
-    let a = acted(s, e, turns, next, head, latest, own);
-    let listed = entered(e, d, latest, wait, point, list, a.listed);
-    Tally {
-        idle: a.idle,
-        begun: a.begun,
-        ended: a.ended,
-        listed,
+    match x {
+        Answer::Idle => idled(s),
+        Answer::Going => going(s, e, w, next, head, latest, wait, own, point, list),
+        Answer::Ended { result: _, own: _ } => s,
+        Answer::Refused(_) => s,
     }
 }

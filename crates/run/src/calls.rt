@@ -6,16 +6,12 @@ ghost use lib.Dec.{eqb};
 ghost use lib.ListN.{replicate};
 ghost use Rattle.method.specs.declared.Call.{Call};
 ghost use Rattle.runfile.specs.Layout.{records};
-ghost use Rattle.run.specs.Calls.{offer, errandOf, waits, actOf, didOf, movesOn, Linked, StationsWithin};
-use crate::Act;
-use crate::Did;
+ghost use Rattle.run.specs.Calls.{offer, errandOf, waits, leftOf, Linked, StationsWithin};
 use crate::Errand;
+use crate::Went;
 use card::Halves;
-use method::Answer;
 use method::Call;
 use method::Station;
-use reach::Moved;
-use reach::Reach;
 
 // What the turn of a station is for, which stands at t, has call next on offer and has made call latest last.
 pub(crate) fn errand(t: Station, turn: u32, station: u32, next: u32, latest: u32) -> Errand
@@ -49,7 +45,7 @@ pub(crate) fn idles(e: Errand) -> bool
 }
 
 // The errand's call as an offer to a station at rest; none where there is no call, and to a station in one.
-fn offered(table: &[u8], e: Errand) -> Call
+pub(crate) fn offered(table: &[u8], e: Errand) -> Call
     ensures { λ r. ⌜ r ≡ offer (now (table .entry)) (cond (e .rests) (e .call) 0) ⌝ }
 {
     let rests = e.rests;
@@ -71,7 +67,7 @@ fn offered(table: &[u8], e: Errand) -> Call
 }
 
 // The version that a station in a call waits for: V.seq when its contest is over. 0 at rest.
-fn waiting(t: Station) -> u32
+pub(crate) fn waiting(t: Station) -> u32
     requires { ⌜ t .s ≤ 4294967292 ⌝ }
     ensures { λ r. ⌜ r ≡ waits t ⌝ }
 {
@@ -83,70 +79,20 @@ fn waiting(t: Station) -> u32
     s + 2
 }
 
-// What a turn was that answered x and left its station with so many own turns.
-fn act(x: Answer, made: u32) -> Act
-    ensures { λ r. ⌜ r ≡ actOf x made ⌝ }
+// What is left of a turn of n stations that took a station at t to so many own turns, and read V as v.
+pub(crate) fn left(t: Station, v: Halves, own: u32, n: u32) -> Went
+    ensures { λ r. ⌜ r ≡ leftOf t v own n ⌝ }
 {
-    match x {
-        Answer::Idle => Act {
-            goes: false,
-            ends: false,
-            idle: true,
-            own: 0,
-        },
-        Answer::Going => Act {
-            goes: true,
-            ends: false,
-            idle: false,
-            own: made,
-        },
-        Answer::Ended { result: _, own } => Act {
-            goes: false,
-            ends: true,
-            idle: false,
-            own,
-        },
-        Answer::Refused(_) => Act {
-            goes: false,
-            ends: false,
-            idle: false,
-            own: 0,
-        },
-    }
-}
-
-// What a turn of n stations did, which took a station from t by the move m and read V as v.
-pub(crate) fn done(t: Station, v: Halves, n: u32, m: Moved) -> Did
-    requires { ⌜ m .reach .station .s ≤ 4294967292 ⌝ }
-    ensures { λ r. ⌜ r ≡ didOf t v n (m .reach .station) (m .answer) ⌝ }
-{
-    let h = m.reach;
-    let after = h.station;
-    let waits = waiting(after);
     let saw = t.saw;
     let version = v.first;
     let place = t.place;
     let raises = (place.number() == 19) & (version < saw.seq);
-    let x = m.answer;
-    let a = act(x, after.own);
-    Did {
-        goes: a.goes,
-        ends: a.ends,
-        idle: a.idle,
-        own: a.own,
-        raises: a.goes & raises,
+    Went {
+        own,
+        raises,
         saw,
         n,
-        waits,
     }
-}
-
-// The station makes its move with the errand's call on offer.
-pub(crate) fn moved_on(table: &[u8], e: Errand, g: Reach) -> Moved
-    ensures { λ r. ⌜ r ≡ movesOn (now (table .entry)) e g ⌝ }
-{
-    let o = offered(table, e);
-    g.moved(o.kind, o.a, o.b)
 }
 
 // Leaves in head each station's first call, and in next, for each call, its station's next one.

@@ -2,16 +2,18 @@
 // It assumes a sound bench, good turns and good calls, and keeps the bench sound, so that no turn tests it.
 ghost use mathlib.Core.Path.{_≡_};
 ghost use Prim.Native.Nat.{_≤_};
-ghost use Rattle.run.specs.Drive.{Ready, starting, Driven};
+ghost use Rattle.run.specs.Drive.{Ready, Driven};
 use crate::Drove;
+use crate::Finish;
 use crate::Tally;
-use crate::book::ended;
+use crate::book::finished;
 use crate::book::idled;
-use crate::book::noted;
-use crate::calls::done;
+use crate::book::went;
 use crate::calls::errand;
 use crate::calls::idles;
-use crate::calls::moved_on;
+use crate::calls::left;
+use crate::calls::offered;
+use crate::calls::waiting;
 use bench::Bench;
 use method::Answer;
 use reach::Reach;
@@ -37,7 +39,7 @@ pub(crate) fn drive(
     list: &mut [u32],
 ) -> Drove
     requires { ⌜ Ready w (now table) (now turns) (now next) (now head) (now latest) (now wait) (now own) (now told) (now point) (now list) ⌝ }
-    ensures { λ r. ⌜ Driven (starting w (now (head .entry)) (now (latest .entry)) (now (own .entry)) (now (told .entry)) (now (point .entry)) (now (list .entry))) (now (table .entry)) (now (turns .entry)) r (now (head .exit)) (now (latest .exit)) (now (own .exit)) (now (told .exit)) (now (point .exit)) (now (list .exit)) ⌝ }
+    ensures { λ r. ⌜ Driven w (now (table .entry)) (now (turns .entry)) (now (head .entry)) (now (latest .entry)) (now (own .entry)) (now (told .entry)) (now (point .entry)) (now (list .entry)) r (now (head .exit)) (now (latest .exit)) (now (own .exit)) (now (told .exit)) (now (point .exit)) (now (list .exit)) ⌝ }
     ensures { λ r. ⌜ r .tally .listed ≤ 1025 ⌝ }
 {
     let n = w.n;
@@ -58,6 +60,7 @@ pub(crate) fn drive(
             s = idled(s);
             continue;
         }
+        let o = offered(table, e);
         let to = reaches(t, i) as usize;
         let v = w.v;
         let p = w.p;
@@ -71,7 +74,7 @@ pub(crate) fn drive(
             r,
             station: t,
         };
-        let m = moved_on(table, e, g);
+        let m = g.moved(o.kind, o.a, o.b);
         let h = m.reach;
         let hv = h.v;
         let hp = h.p;
@@ -83,17 +86,18 @@ pub(crate) fn drive(
         w.a[to] = ha;
         w.r[to] = hr;
         w.stations[at] = ht;
-        let d = done(t, v, n, m);
-        s = noted(s, e, d, next, head, latest, wait, own, point, list);
-        wait[at] = d.waits;
+        let waits = waiting(ht);
         let x = m.answer;
-        let Answer::Ended { result, own: _ } = x else {
+        let Answer::Ended { result, own: took } = x else {
+            let made = ht.own;
+            let l = left(t, v, made, n);
+            s = went(s, x, e, l, next, head, latest, wait, own, point, list);
+            wait[at] = waits;
             continue;
         };
-        let c = e.call as usize;
-        told[c] = (result as u64) + 1;
-        s = ended(s);
+        let f = Finish { result, own: took };
+        s = finished(s, e, f, next, head, latest, own, told, point, list);
+        wait[at] = waits;
     }
-    let last = w.v;
-    Drove { v: last, tally: s }
+    Drove { bench: w, tally: s }
 }

@@ -1,8 +1,8 @@
 // A run of a file: calls out of its table are offered to the stations, turn by turn, and a book is kept of what took effect when.
 // Its modules: calls (which call is whose next), book (what is kept by stations and by calls), drive (the loop over the turns),
 // ran (the run of a whole file), rows (zeros), tracing (what the rooms above have of a run).
+use bench::Bench;
 use card::Claim;
-use card::Halves;
 
 mod book;
 mod calls;
@@ -44,30 +44,22 @@ pub(crate) struct Errand {
     pub rests: bool,
 }
 
-// What a turn was, by its answer: an operation after which the call goes on, one that ends it, or an idle one; and the own turns
-// that its call then has.
-pub(crate) struct Act {
-    pub goes: bool,
-    pub ends: bool,
-    pub idle: bool,
-    pub own: u32,
-}
-
-// What a turn did, as far as the book goes: its act, whether it raised V.seq, and to whose claim, of how many stations; and the
-// version that its station then waits for.
-pub(crate) struct Did {
-    pub goes: bool,
-    pub ends: bool,
-    pub idle: bool,
+// What is left of a turn that did not end its call: the own turns made, whether V.seq was raised, and to whose claim.
+pub(crate) struct Went {
     pub own: u32,
     pub raises: bool,
     pub saw: Claim,
     pub n: u32,
-    pub waits: u32,
 }
 
-// V and the counts at the end of a run.
+// What a turn that ended its call handed back.
+pub(crate) struct Finish {
+    pub result: u32,
+    pub own: u32,
+}
+
+// The bench and the counts at the end of a run.
 pub(crate) struct Drove {
-    pub v: Halves,
+    pub bench: Bench,
     pub tally: Tally,
 }

@@ -64,7 +64,8 @@ pub(crate) fn ran(
         list,
     );
     let s = d.tally;
-    let v = d.v;
+    let w = d.bench;
+    let v = w.v;
     clear(list, s.listed as usize);
     Trace {
         refused: 0,

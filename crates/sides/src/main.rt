@@ -167,19 +167,28 @@ fn versions() {
     );
 }
 
-fn stations_and_kinds() {
+fn stations() {
     offer(b"station 0 of 2, read", two(), 0, 0, 0, 0);
     offer(b"station 2 of 2, read", two(), 2, 0, 0, 0);
     offer(b"station 3 of 2, read", two(), 3, 0, 0, 0);
     offer(b"station 3 of 2, kind 4", two(), 3, 4, 0, 0);
+}
+
+fn kinds() {
     offer(b"kind 0", two(), 1, 0, 0, 0);
     offer(b"kind 1, 7 8", two(), 1, 1, 7, 8);
     offer(b"kind 1, 7 7", two(), 1, 1, 7, 7);
     offer(b"kind 1, 8 7", two(), 1, 1, 8, 7);
+}
+
+fn more_kinds() {
     offer(b"kind 2, 7 8", two(), 1, 2, 7, 8);
     offer(b"kind 2, 8 7", two(), 1, 2, 8, 7);
     offer(b"kind 3", two(), 1, 3, 0, 0);
     offer(b"kind 4", two(), 1, 4, 0, 0);
+}
+
+fn values_with_none() {
     offer(b"kind 0, a 1", two(), 1, 0, 1, 0);
     offer(b"kind 0, b 1", two(), 1, 0, 0, 1);
     offer(b"kind 3, a 1", two(), 1, 3, 1, 0);
@@ -193,6 +202,9 @@ fn in_a_call() {
     offer(b"at 18, none with a 1", w, 1, 3, 1, 0);
     offer(b"at 18, kind 4", w, 1, 4, 0, 0);
     offer(b"at 18 with saved pid 3 of 2", at_18(3), 1, 3, 0, 0);
+}
+
+fn of_pid_0() {
     let x = at_18(0).turn(1, 3, 0, 0);
     let answer = x.answer;
     tell(b"at 18 with saved pid 0", answer);
@@ -252,7 +264,11 @@ fn main() {
     fresh_benches();
     counts();
     versions();
-    stations_and_kinds();
+    stations();
+    kinds();
+    more_kinds();
+    values_with_none();
     in_a_call();
+    of_pid_0();
     pictures();
 }
