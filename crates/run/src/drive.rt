@@ -54,12 +54,13 @@ pub(crate) fn drive(
         let i = wide(turns[k]);
         let at = i as usize;
         k = k + 1;
-        let t = w.stations[at];
-        let e = errand(t, k as u32, i, head[at], latest[at]);
+        let seen = w.stations[at];
+        let e = errand(seen, k as u32, i, head[at], latest[at]);
         if idles(e) {
             s = idled(s);
             continue;
         }
+        let t = w.stations[at];
         let o = offered(table, e);
         let to = reaches(t, i) as usize;
         let v = w.v;

@@ -13,7 +13,7 @@ use Rattle.run.specs.Book.{bookOf}
 use Rattle.run.specs.Drive.{noTally, Driven}
 use Rattle.run.proofs.Points.{few-listed}
 use Rattle.run.proofs.Sizes.{station-fits, turn-fits, has-place, one-less}
-use Rattle.run.proofs.Loop.{Kept, state, all-turned, few, inside, may-go, may-end, s-small, after-idle, after-going, after-end}
+use Rattle.run.proofs.Loop.{Kept, state, all-turned, inside, may-go, may-end, s-small, after-idle, after-going, after-end}
 use Rattle.run.proofs.drive.drive.Statement.{statement}
 use Rattle.run.proofs.drive.drive.Tie as tie
 
@@ -39,25 +39,43 @@ station-inside c =
     let s = entry (round c) in
     inside _ _ _ _ _ _ _ _ _ _ _ _ _ _ _ (round c .loop .inv .1) (more c) (s .pre .good) (s .pre .linked .after) (c .wide .result) (c .wide .ensures)
 
+-- back from the move to what it reached, to the errand and to the start of the turn
+abbrev shifting : tie.After-ht Inv-loop μ-loop → tie.After-moved Inv-loop μ-loop
+shifting c = c .before .before .before .before .before .before
+
+abbrev reaching : tie.After-moved Inv-loop μ-loop → tie.After-reaches Inv-loop μ-loop
+reaching c = c .before .before .before .before .before
+
+abbrev errand : tie.After-offered Inv-loop μ-loop → tie.After-errand Inv-loop μ-loop
+errand c = c .before .before .before .before
+
+abbrev turning : tie.After-errand Inv-loop μ-loop → tie.After-wide Inv-loop μ-loop
+turning c = c .before .before .before .before
+
+abbrev start : tie.After-reaches Inv-loop μ-loop → tie.After-wide Inv-loop μ-loop
+start c = turning (errand (c .before))
+
 reached : (c : tie.After-reaches Inv-loop μ-loop) → c .reaches .result < 33
 reached c =
-    let a = c .before .before .before .before .before .before .before .before in
+    let a = start c in
     rw (c .reaches .ensures) (within-at (round a .loop .w) (a .wide .result) (round a .loop .inv .1 .isSound) (station-inside a))
 
 -- what is on offer is the errand's call
 offers : (c : tie.After-offered Inv-loop μ-loop)
-    → let a = c .before .before .before .before .before .before .before in
+    → let a = turning (errand c) in
     let l = round a .loop in
     let i = a .wide .result in
     let p = stationAt (l .w) i .place in
     c .offered .result ≡ offer (entry (round a) .args .table .now) (cond (eqb (num p) 0) (callFor p (getD (l .head) i 0) (getD (l .latest) i 0)) 0)
-offers c = c .offered .ensures ∙ ap (λ e. offer (entry (round (c .before .before .before .before .before .before .before)) .args .table .now) (cond (e .rests) (e .call) 0)) (c .before .before .before .errand .ensures)
+offers c =
+    let a = turning (errand c) in
+    c .offered .ensures ∙ ap (λ e. offer (entry (round a) .args .table .now) (cond (e .rests) (e .call) 0)) (errand c .errand .ensures)
 
 -- a law of a move, at this turn
 station-small : (c : tie.After-moved Inv-loop μ-loop) → c .moved .result .reach .station .s ≤ 4294967292
 station-small c =
-    let q = c .before .before .before .before .before in
-    let a = c .before .before .before .before .before .before .before .before .before .before .before .before .before in
+    let q = reaching c in
+    let a = start q in
     let s = entry (round a) in
     s-small _ _ _ _ _ _ _ _ _ _ _ _ _ _ _ (round a .loop .inv .1) (more a) (s .pre .good) (s .pre .linked .after) (a .wide .result) (a .wide .ensures) (q .reaches .result)
     (q .before .offered .result) (c .moved .result) (q .reaches .ensures) (offers (q .before)) (c .moved .ensures)
@@ -94,14 +112,17 @@ drive-spec =
     (λ c. let a = c .before .before .before in has-place 33 (station-inside a) (round a .loop .inv .1 .rows .latests))
     (λ c κs. tt)
     (λ c κs. tt)
-    (λ c κs. let a = c .before .before .before .before .before .before in omega (arith, round a .loop .inv .1 .idle, more a, entry (round a) .pre .good .few))
-    (λ c. one-less (more (c .before .before .before .before .before .before .before)))
+    (λ c κs. let a = turning (c .before .before) in omega (arith, round a .loop .inv .1 .idle, more a, entry (round a) .pre .good .few))
+    (λ c. one-less (more (turning (c .before .before .before))))
     (λ c.
-    let a = c .before .before .before .before .before .before .before in
+    let e = c .before .before .before in
+    let a = turning e in
     let s = entry (round a) in (
       refl,
-      after-idle _ _ _ _ _ _ _ _ _ _ _ _ _ _ _ (round a .loop .inv .1) (more a) (s .pre .good) (s .pre .linked .after) (a .wide .result) (a .wide .ensures) _ _ _ (c .before .before .before .errand .ensures) (c .before .before .idles .ensures) (c .before .if1 .taken) (c .idled .ensures),
+      after-idle _ _ _ _ _ _ _ _ _ _ _ _ _ _ _ (round a .loop .inv .1) (more a) (s .pre .good) (s .pre .linked .after) (a .wide .result) (a .wide .ensures) _ _ _ (e .errand .ensures) (c .before .before .idles .ensures) (c .before .if1 .taken) (c .idled .ensures),
     ))
+    (λ c. station-fits (station-inside (turning (c .before .before))) .1 .1)
+    (λ c. station-inside (turning (c .before .before)))
     (λ c κs. tt)
     (λ c κs. tt)
     (λ c. station-fits (reached c) .0 .0)
@@ -110,48 +131,53 @@ drive-spec =
     (λ c. station-fits (reached (c .before .before .before)) .1 .0)
     (λ c. reached (c .before .before .before))
     (λ c κs. tt)
-    (λ c. station-fits (reached (c .before .before .before .before .before .before .before .before .before .before .before)) .1 .0)
-    (λ c. reached (c .before .before .before .before .before .before .before .before .before .before .before))
-    (λ c. station-fits (reached (c .before .before .before .before .before .before .before .before .before .before .before)) .1 .0)
-    (λ c. reached (c .before .before .before .before .before .before .before .before .before .before .before))
-    (λ c. station-fits (station-inside (c .before .before .before .before .before .before .before .before .before .before .before .before .before .before .before .before .before .before .before)) .1 .1)
-    (λ c. station-inside (c .before .before .before .before .before .before .before .before .before .before .before .before .before .before .before .before .before .before .before))
-    (λ c κs. station-small (c .before .before .before .before .before .before))
+    (λ c. station-fits (reached (reaching (shifting c))) .1 .0)
+    (λ c. reached (reaching (shifting c)))
+    (λ c. station-fits (reached (reaching (shifting c))) .1 .0)
+    (λ c. reached (reaching (shifting c)))
+    (λ c. station-fits (station-inside (start (reaching (shifting c)))) .1 .1)
+    (λ c. station-inside (start (reaching (shifting c))))
+    (λ c κs. station-small (shifting c))
     (λ c. c .match .keys1)
     (λ c κs. tt)
     (λ c κs.
-    let a = c .before .before .before .before .before .before .before .before .before .before .before .before .before .before .before .before .before .before .before .before .before .before .before .before .before .before .before .before in
+    let l = c .before .before .before .before .before .before in
+    let e = errand (reaching (shifting (l .before .before .before)) .before) in
+    let a = turning e in
     let s = entry (round a) in
-    rw (c .before .before .before .before .before .before .before .before .before .before .before .before .before .before .before .before .before .before .before .before .before .before .before .before .errand .ensures, c .before .before .before .before .before .before .left .ensures) (may-go _ _ _ _ _ _ _ _ _ _ _ _ _ _ _ (round a .loop .inv .1) (more a) (s .pre .good) (s .pre .linked .after) (a .wide .result) (a .wide .ensures)))
-    (λ c. station-fits (station-inside (c .before .before .before .before .before .before .before .before .before .before .before .before .before .before .before .before .before .before .before .before .before .before .before .before .before .before .before .before .before .before .before .before .before .before .before .before .before .before .before)) .0 .1)
-    (λ c. let a = c .before .before .before .before .before .before .before .before .before .before .before .before .before .before .before .before .before .before .before .before .before .before .before .before .before .before .before .before .before .before .before .before .before .before .before .before .before .before .before in has-place 33 (station-inside a) (round a .loop .inv .1 .rows .waiters))
-    (λ c. one-less (more (c .before .before .before .before .before .before .before .before .before .before .before .before .before .before .before .before .before .before .before .before .before .before .before .before .before .before .before .before .before .before .before .before .before .before .before .before .before .before .before)))
+    rw (e .errand .ensures, l .left .ensures) (may-go _ _ _ _ _ _ _ _ _ _ _ _ _ _ _ (round a .loop .inv .1) (more a) (s .pre .good) (s .pre .linked .after) (a .wide .result) (a .wide .ensures)))
+    (λ c. station-fits (station-inside (start (reaching (shifting (c .before .before .before .before .before .before .before .before .before .before .before .before .before .before .before .before .before .before .before .before))))) .0 .1)
+    (λ c. let a = start (reaching (shifting (c .before .before .before .before .before .before .before .before .before .before .before .before .before .before .before .before .before .before .before .before))) in has-place 33 (station-inside a) (round a .loop .inv .1 .rows .waiters))
+    (λ c. one-less (more (start (reaching (shifting (c .before .before .before .before .before .before .before .before .before .before .before .before .before .before .before .before .before .before .before .before))))))
     (λ c.
     let z = c .before .before .before .before .before .before .before .before .before .before in
-    let m = z .before .before .before .before .before .before .before .before .before .before .before .before .before .before .before .before in
-    let q = m .before .before .before .before .before in
-    let a = c .before .before .before .before .before .before .before .before .before .before .before .before .before .before .before .before .before .before .before .before .before .before .before .before .before .before .before .before .before .before .before .before .before .before .before .before .before .before .before in
+    let l = z .before .before .before .before .before .before .before in
+    let m = shifting (l .before .before .before) in
+    let q = reaching m in
+    let a = start q in
     let s = entry (round a) in (
       refl,
       after-going _ _ _ _ _ _ _ _ _ _ _ _ _ _ _ (round a .loop .inv .1) (more a) (s .pre .good) (s .pre .linked .after) (a .wide .result) (a .wide .ensures) (q .reaches .result) (q .before .offered .result) (m .moved .result)
-          (q .reaches .ensures) (offers (q .before)) (m .moved .ensures) _ _ _ _ _ _ _ _ _ (z .before .before .before .before .before .before .before .before .match .keys2) (q .before .before .before .before .errand .ensures) (z .before .before .before .before .before .before .before .left .ensures) (z .before .before .before .before .before .before .before .before .before .waiting .ensures) (z .went .ensures .0) (z .went .ensures .1),
+          (q .reaches .ensures) (offers (q .before)) (m .moved .ensures) _ _ _ _ _ _ _ _ _ (l .before .match .keys2) (errand (q .before) .errand .ensures) (l .left .ensures) (l .before .before .waiting .ensures) (z .went .ensures .0) (z .went .ensures .1),
     ))
     (λ c κs.
-    let a = c .before .before .before .before .before .before .before .before .before .before .before .before .before .before .before .before .before .before .before .before .before .before .before .before .before .before .before .before .before in
+    let e = errand (reaching (shifting (c .before .before .before .before .before .before .before .before .before .before)) .before) in
+    let a = turning e in
     let s = entry (round a) in
-    rw (c .before .before .before .before .before .before .before .before .before .before .before .before .before .before .before .before .before .before .before .before .before .before .before .before .before .errand .ensures) (may-end _ _ _ _ _ _ _ _ _ _ _ _ _ _ _ (round a .loop .inv .1) (more a) (s .pre .good) (s .pre .linked .after) (a .wide .result) (a .wide .ensures)))
-    (λ c. station-fits (station-inside (c .before .before .before .before .before .before .before .before .before .before .before .before .before .before .before .before .before .before .before .before .before .before .before .before .before .before .before .before .before .before .before .before .before .before .before .before .before .before .before .before .before .before)) .0 .1)
-    (λ c. let a = c .before .before .before .before .before .before .before .before .before .before .before .before .before .before .before .before .before .before .before .before .before .before .before .before .before .before .before .before .before .before .before .before .before .before .before .before .before .before .before .before .before .before in has-place 33 (station-inside a) (round a .loop .inv .1 .rows .waiters))
-    (λ c. one-less (more (c .before .before .before .before .before .before .before .before .before .before .before .before .before .before .before .before .before .before .before .before .before .before .before .before .before .before .before .before .before .before .before .before .before .before .before .before .before .before .before .before .before .before)))
+    rw (e .errand .ensures) (may-end _ _ _ _ _ _ _ _ _ _ _ _ _ _ _ (round a .loop .inv .1) (more a) (s .pre .good) (s .pre .linked .after) (a .wide .result) (a .wide .ensures)))
+    (λ c. station-fits (station-inside (start (reaching (shifting (c .before .before .before .before .before .before .before .before .before .before .before .before .before .before .before .before .before .before .before .before .before .before .before))))) .0 .1)
+    (λ c. let a = start (reaching (shifting (c .before .before .before .before .before .before .before .before .before .before .before .before .before .before .before .before .before .before .before .before .before .before .before))) in has-place 33 (station-inside a) (round a .loop .inv .1 .rows .waiters))
+    (λ c. one-less (more (start (reaching (shifting (c .before .before .before .before .before .before .before .before .before .before .before .before .before .before .before .before .before .before .before .before .before .before .before))))))
     (λ c.
     let z = c .before .before .before .before .before .before .before .before .before .before .before .before in
-    let m = z .before .before .before .before .before .before .before .before .before .before .before .before .before .before .before .before .before in
-    let q = m .before .before .before .before .before in
-    let a = c .before .before .before .before .before .before .before .before .before .before .before .before .before .before .before .before .before .before .before .before .before .before .before .before .before .before .before .before .before .before .before .before .before .before .before .before .before .before .before .before .before .before in
+    let x = z .before .before .before .before .before .before .before .before in
+    let m = shifting (x .before .before .before) in
+    let q = reaching m in
+    let a = start q in
     let s = entry (round a) in (
       refl,
       after-end _ _ _ _ _ _ _ _ _ _ _ _ _ _ _ (round a .loop .inv .1) (more a) (s .pre .good) (s .pre .linked .after) (a .wide .result) (a .wide .ensures) (q .reaches .result) (q .before .offered .result) (m .moved .result)
-          (q .reaches .ensures) (offers (q .before)) (m .moved .ensures) _ _ _ _ _ _ _ _ _ _ _ (z .before .before .before .before .before .before .before .before .x .given .1) (q .before .before .before .before .errand .ensures) (z .before .before .before .before .before .before .before .before .before .before .waiting .ensures) (z .finished .ensures .0) (z .finished .ensures .1),
+          (q .reaches .ensures) (offers (q .before)) (m .moved .ensures) _ _ _ _ _ _ _ _ _ _ _ (x .x .given .1) (errand (q .before) .errand .ensures) (x .before .before .waiting .ensures) (z .finished .ensures .0) (z .finished .ensures .1),
     ))
     (λ c. c .before .loop .inv .1 .rows .heads ∙ sym (entry (c .before) .pre .rows .heads))
     (λ c. c .before .loop .inv .1 .rows .latests ∙ sym (entry (c .before) .pre .rows .latests))
