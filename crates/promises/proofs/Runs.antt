@@ -15,7 +15,7 @@ use Rattle.run.specs.Rows.{enterCall}
 use Rattle.run.specs.Book.{allEnter}
 use Rattle.run.specs.Calls.{callAfter}
 use Rattle.run.specs.Run.{firstCalls, noted, runFrom}
-use Rattle.sheet.specs.Sheet.{answerWord, lineText, linesText, lastText, sheetText}
+use Rattle.lines.specs.Lines.{answerWord, lineText, linesText, lastText, sheetText}
 use Rattle.sheet.specs.Report.{reportText}
 use Rattle.promises.specs.Runs.{RunsToCheck}
 

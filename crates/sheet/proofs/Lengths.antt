@@ -17,8 +17,8 @@ use Rattle.run.specs.Trace.{traceBy}
 use Rattle.run.proofs.Files.{reads-well}
 use Rattle.limits.specs.Small.{Small, SmallNumbers}
 use Rattle.limits.proofs.Promised.{small-numbers}
-use Rattle.sheet.specs.declared.Line.{Line}
-use Rattle.sheet.specs.Sheet.{field, answerWord, lineText, lineOf, linesText, lastText, sheetText}
+use Rattle.lines.specs.declared.Line.{Line}
+use Rattle.lines.specs.Lines.{field, answerWord, lineText, lineOf, linesText, lastText, sheetText}
 use Rattle.sheet.specs.Report.{runText, reportText}
 
 digits : (n k : ℕ) → n < 10 ^ k → 0 < k → length (field n) ≤ k + 1
@@ -62,7 +62,7 @@ module _ (calls : ℕ) (table : List ℕ) (r : Run) (small : Small r) (stations 
         place = omega arith;
         station = omega (arith, stations c);
         call = small .calls i;
-        answer = omega (arith, small .told c);
+        answer = omega arith;
         own = small .own c;
         point = small .point c;
       }

@@ -16,10 +16,8 @@ use Rattle.runfile.proofs.Answers.{by-answer}
 use Rattle.run.specs.declared.Trace.{Trace}
 use Rattle.run.specs.Drive.{runOfFile}
 use Rattle.run.specs.Trace.{padded, fit, traceBy, traceOf, lentRow, TracedTo}
-use Rattle.limits.specs.Small.{SmallNumbers}
-use Rattle.limits.proofs.Promised.{small-numbers}
 use Rattle.sheet.specs.declared.Reported.{Reported}
-use Rattle.sheet.specs.Sheet.{Answers, lastText, sheetText}
+use Rattle.lines.specs.Lines.{lastText, sheetText}
 use Rattle.sheet.specs.Report.{reportText, reported, reportOf, reportedOn, LaidOn, ReportedTo, AlwaysEnough, ReportSettled}
 use Rattle.sheet.proofs.Listing.{lines-padded}
 use Rattle.sheet.proofs.Lengths.{length-report}
@@ -86,10 +84,6 @@ module _ (file out own told point list own′ told′ point′ list′ : List �
     left-in row before = rw (eq-eqb (t .refused) 0 z) refl
 
     module _ (h : AllBytes file) where
-      pub answers : Answers told′
-      unfolding SmallNumbers
-      answers c = rw (e .tolds, left-in (runOfFile file .book .told) told) (small-numbers file h well .told c)
-
       module _ (table : List ℕ) (g : table ≡ tableOf file) where
         same-text : sheetText t table own′ told′ point′ list′ ≡ reportText file
         unfolding reportText sheetText

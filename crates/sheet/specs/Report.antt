@@ -11,7 +11,7 @@ use Rattle.run.specs.Run.{Run}
 use Rattle.run.specs.Drive.{runOfFile}
 use Rattle.run.specs.Trace.{traceBy}
 use Rattle.sheet.specs.declared.Reported.{Reported}
-use Rattle.sheet.specs.Sheet.{sheetText}
+use Rattle.lines.specs.Lines.{sheetText}
 
 -- the sheet of a run of a table of so many calls
 abbrev pub runText : ℕ → List ℕ → Run → List ℕ

@@ -1,6 +1,5 @@
 // The report of a run file as text, in a lent buffer.
-// Its modules: lines (the text of a line and of the whole sheet), reporting (the report of a file, and what is proved of it).
-mod lines;
+// Its module: reporting (the report of a file, and what is proved of it). The text itself is that of `lines`.
 mod reporting;
 
 pub use reporting::answer_is_settled;
@@ -12,16 +11,4 @@ pub struct Reported {
     pub refused: u32,
     pub k: usize,
     pub len: usize,
-}
-
-// What a line says of a listed call; answer is 0 where the call has not ended.
-pub(crate) struct Line {
-    pub place: u32,
-    pub station: u32,
-    pub call: u32,
-    pub kind: u32,
-    pub ended: bool,
-    pub answer: u32,
-    pub own: u32,
-    pub point: u32,
 }

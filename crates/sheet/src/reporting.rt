@@ -4,10 +4,10 @@ ghost use Prim.Native.Nat.{_≤_};
 ghost use lib.Dec.{leb};
 ghost use lib.ListN.{length};
 ghost use Rattle.runfile.specs.Reading.{readOf, tableOf};
-ghost use Rattle.sheet.specs.Sheet.{Answers, sheetText};
+ghost use Rattle.lines.specs.Lines.{sheetText};
 ghost use Rattle.sheet.specs.Report.{LaidOn, ReportedTo, AlwaysEnough, ReportSettled};
 use crate::Reported;
-use crate::lines::put_sheet;
+use lines::put_sheet;
 use run::Trace;
 
 // The call table of a file that was read as having so many calls.
@@ -29,7 +29,7 @@ fn has_room(
     point: &[u32],
     list: &[u32],
 ) -> bool
-    requires { ⌜ Answers (now told) × (length (sheetText t (now table) (now own) (now told) (now point) (now list)) ≤ 40960) ⌝ }
+    requires { ⌜ length (sheetText t (now table) (now own) (now told) (now point) (now list)) ≤ 40960 ⌝ }
     ensures { λ r. ⌜ r ≡ leb (length (sheetText t (now (table .entry)) (now (own .entry)) (now (told .entry)) (now (point .entry)) (now (list .entry)))) room ⌝ }
 {
     if 40960 <= room {
@@ -50,7 +50,7 @@ fn laid(
     point: &[u32],
     list: &[u32],
 ) -> Reported
-    requires { ⌜ Answers (now told) × (length (sheetText t (now table) (now own) (now told) (now point) (now list)) ≤ 40960) ⌝ }
+    requires { ⌜ length (sheetText t (now table) (now own) (now told) (now point) (now list)) ≤ 40960 ⌝ }
     ensures { λ r. ⌜ LaidOn (sheetText t (now (table .entry)) (now (own .entry)) (now (told .entry)) (now (point .entry)) (now (list .entry))) (now (out .entry)) r (now (out .exit)) ⌝ }
 {
     let fits = has_room(out.len(), t, table, own, told, point, list);

@@ -9,6 +9,6 @@ laid-spec =
     tie.close
     (tie.spec (λ c κs. c .before .before .before .before .before .before .pre)
     (λ c. has-none _ _ _ (c .before .has-room .ensures) (not-true _ (c .if1 .taken)))
-    (λ c κs. c .before .before .before .before .before .before .before .before .before .pre .0)
+    (λ c κs. tt)
     (λ c. search needs)
-    (λ c. has-some _ _ _ (c .before .before .before .before .before .has-room .ensures) (not-false _ (c .before .before .before .before .if1 .left)) (c .before .before .before .before .before .before .before .before .before .before .before .before .pre .1) (c .before .before .put-sheet .ensures)))
+    (λ c. has-some _ _ _ (c .before .before .before .before .before .has-room .ensures) (not-false _ (c .before .before .before .before .if1 .left)) (c .before .before .before .before .before .before .before .before .before .before .before .before .pre) (c .before .before .put-sheet .ensures)))

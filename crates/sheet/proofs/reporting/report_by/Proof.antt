@@ -4,7 +4,7 @@ use mathlib.Core.Path.{_≡_}
 use mathlib.Core.Bool.{true}
 use Rattle.octets.specs.Bytes.{AllBytes}
 use Rattle.run.specs.Trace.{fit}
-use Rattle.sheet.proofs.Reports.{rows-fit, refused, calls-read, answers, at-most, the-report}
+use Rattle.sheet.proofs.Reports.{rows-fit, refused, calls-read, at-most, the-report}
 use Rattle.sheet.proofs.reporting.report_by.Statement.{statement}
 use Rattle.sheet.proofs.reporting.report_by.Tie as tie
 
@@ -33,10 +33,8 @@ report-by-spec =
     calls-read (s .args .file .now) (s .args .out .now) (s .args .own .now) (s .args .told .now) (s .args .point .now) (s .args .list .now) _ _ _ _ _ (fits s) (c .before .before .before .before .before .before .before .before .before .before .traced .ensures) (c .if1 .left))
     (λ c κs.
     let e = c .before .before .before .before .before .before in
-    let s = first e .before in (
-      answers (s .args .file .now) (s .args .out .now) (s .args .own .now) (s .args .told .now) (s .args .point .now) (s .args .list .now) _ _ _ _ _ (fits s) (e .before .before .before .before .before .before .before .before .before .before .traced .ensures) (e .if1 .left) (bytes e),
-      at-most (s .args .file .now) (s .args .out .now) (s .args .own .now) (s .args .told .now) (s .args .point .now) (s .args .list .now) _ _ _ _ _ (fits s) (e .before .before .before .before .before .before .before .before .before .before .traced .ensures) (e .if1 .left) (bytes e) _ (c .before .before .before .before .before .table-of .ensures),
-    ))
+    let s = first e .before in
+    at-most (s .args .file .now) (s .args .out .now) (s .args .own .now) (s .args .told .now) (s .args .point .now) (s .args .list .now) _ _ _ _ _ (fits s) (e .before .before .before .before .before .before .before .before .before .before .traced .ensures) (e .if1 .left) (bytes e) _ (c .before .before .before .before .before .table-of .ensures))
     (λ c. search needs)
     (λ c. search needs)
     (λ c. search needs)

@@ -5,10 +5,10 @@ use Prim.Native.Nat.{_+_, _-_, _≤_}
 use native.Mathlib.Omega.{arith}
 use Rattle.script.specs.Wrote.{Wrote}
 use Rattle.script.proofs.Writes.{still, same-length}
-use Rattle.sheet.specs.Sheet.{lineOf, linesText}
-use Rattle.sheet.proofs.Listing.{line-more}
-use Rattle.sheet.proofs.lines.put_lines.Statement.{statement}
-use Rattle.sheet.proofs.lines.put_lines.Tie as tie
+use Rattle.lines.specs.Lines.{lineOf, linesText}
+use Rattle.lines.proofs.Listing.{line-more}
+use Rattle.lines.proofs.put_lines.Statement.{statement}
+use Rattle.lines.proofs.put_lines.Tie as tie
 
 abbrev Inv-loop : tie.InvT-loop
 Inv-loop out₀ listed table own told point list i₀ o₀ out i o = (i ≤ listed) × Wrote out₀ out 0 o (linesText table own told point list i)
@@ -26,10 +26,10 @@ put-lines-spec =
     (tie.spec Inv-loop μ-loop
     (λ c. starts c)
     (λ c. search needs)
-    (λ c κs. search needs)
+    (λ c κs. tt)
     (λ c. search needs)
-    (λ c κs. search needs)
-    (λ c κs. search needs)
+    (λ c κs. tt)
+    (λ c κs. tt)
     (λ c. omega arith)
     (λ c.
     let s = c .before .before .before .before .before .before .before .before .before .before .before .before .before .before in

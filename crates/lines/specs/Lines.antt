@@ -2,7 +2,7 @@
 -- Assumes nothing.
 use mathlib.Core.Bool.{cond, not}
 use mathlib.Core.List.{List, [], _++_}
-use Prim.Native.Nat.{ℕ, zero, suc, _-_, _≤_}
+use Prim.Native.Nat.{ℕ, zero, suc, _-_, _%_}
 use lib.Dec.{eqb}
 use lib.ListN.{getD}
 use Rattle.script.specs.Quote.{quote}
@@ -10,7 +10,7 @@ use Rattle.script.specs.Decimal.{decimal}
 use Rattle.script.specs.Kind.{kindWord}
 use Rattle.runfile.specs.Layout.{callOf}
 use Rattle.run.specs.declared.Trace.{Trace}
-use Rattle.sheet.specs.declared.Line.{Line}
+use Rattle.lines.specs.declared.Line.{Line}
 
 abbrev pub newline : List ℕ
 newline = quote "\n"
@@ -33,7 +33,11 @@ lineText l =
     field (l .place) ++ field (l .station) ++ field (l .call) ++ spaced (kindWord (l .kind)) ++ spaced (answerWord l) ++ field (l .own) ++ decimal (l .point)
     ++ newline
 
--- the line of call c at a place of the list, from the call table and the book's rows; a call that has not ended has been told 0, any other its answer plus 1
+-- a call that has not ended has been told 0, any other its answer, of 32 bits, plus 1
+abbrev pub answerOf : ℕ → ℕ
+answerOf told = (told - 1) % 4294967296
+
+-- the line of call c at a place of the list, from the call table and the book's rows
 abbrev pub lineOf : List ℕ → List ℕ → List ℕ → List ℕ → ℕ → ℕ → Line
 lineOf table own told point place c =
     record {
@@ -42,14 +46,10 @@ lineOf table own told point place c =
       call = c;
       kind = callOf table c .kind;
       ended = not (eqb (getD told c 0) 0);
-      answer = getD told c 0 - 1;
+      answer = answerOf (getD told c 0);
       own = getD own c 0;
       point = getD point c 0;
     }
-
--- what was told is 0 or a 32-bit answer plus 1
-abbrev pub Answers : List ℕ → Type 0
-Answers told = (c : ℕ) → getD told c 0 ≤ 4294967296
 
 -- the first i lines
 unfoldable pub linesText : List ℕ → List ℕ → List ℕ → List ℕ → List ℕ → ℕ → List ℕ

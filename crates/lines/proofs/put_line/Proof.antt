@@ -1,8 +1,7 @@
-use borrow.Author.Needs.{needs}
 use Rattle.script.proofs.Writes.{same-length, andThen}
-use Rattle.sheet.specs.Sheet.{lineText}
-use Rattle.sheet.proofs.lines.put_line.Statement.{statement}
-use Rattle.sheet.proofs.lines.put_line.Tie as tie
+use Rattle.lines.specs.Lines.{lineText}
+use Rattle.lines.proofs.put_line.Statement.{statement}
+use Rattle.lines.proofs.put_line.Tie as tie
 
 wrote : tie.Need-returns
 unfolding lineText
@@ -14,15 +13,15 @@ wrote c =
 pub put-line-spec : {M : Type 1} → statement M
 put-line-spec =
     tie.close
-    (tie.spec (λ c κs. search needs)
-    (λ c κs. search needs)
-    (λ c κs. search needs)
-    (λ c κs. search needs)
-    (λ c κs. search needs)
-    (λ c κs. search needs)
-    (λ c κs. search needs)
-    (λ c κs. search needs)
-    (λ c κs. search needs)
-    (λ c κs. search needs)
+    (tie.spec (λ c κs. tt)
+    (λ c κs. tt)
+    (λ c κs. tt)
+    (λ c κs. tt)
+    (λ c κs. tt)
+    (λ c κs. tt)
+    (λ c κs. tt)
+    (λ c κs. tt)
+    (λ c κs. tt)
+    (λ c κs. tt)
     (λ c. same-length (wrote c))
     wrote)

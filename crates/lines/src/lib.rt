@@ -1,16 +1,26 @@
-// The lines of a report, written to a lent buffer as far as it goes.
+// The text of a report: a line for each listed call and a last line, written to a lent buffer as far as it goes.
 ghost use mathlib.Core.Path.{_≡_};
-ghost use Prim.Native.Nat.{_-_, _≤_};
 ghost use lib.ListN.{getD};
 ghost use Rattle.script.specs.Wrote.{Wrote};
-ghost use Rattle.sheet.specs.Sheet.{Answers, field, answerWord, lineText, lineOf, linesText, lastText, sheetText};
-use crate::Line;
+ghost use Rattle.lines.specs.Lines.{answerOf, field, answerWord, lineText, lineOf, linesText, lastText, sheetText};
 use run::Trace;
 use runfile::call_at;
 use script::decimal;
 use script::kind;
 use script::put;
 use script::word;
+
+// What a line says of a listed call; answer is 0 where the call has not ended.
+pub struct Line {
+    pub place: u32,
+    pub station: u32,
+    pub call: u32,
+    pub kind: u32,
+    pub ended: bool,
+    pub answer: u32,
+    pub own: u32,
+    pub point: u32,
+}
 
 // A number and the space after it.
 fn put_field(out: &mut [u8], at: usize, x: u32) -> usize
@@ -73,18 +83,16 @@ fn wide_cell(row: &[u64], i: usize) -> u64
 
 // The answer that was told; 0 where none was.
 fn answer_of(told: u64) -> u32
-    requires { ⌜ told ≤ 4294967296 ⌝ }
-    ensures { λ r. ⌜ r ≡ told - 1 ⌝ }
+    ensures { λ r. ⌜ r ≡ answerOf told ⌝ }
 {
     if told == 0 {
         return 0;
     }
-    (told - 1) as u32
+    ((told - 1) % 4294967296) as u32
 }
 
 // Call c's line at a place of the list.
 fn line_of(table: &[u8], own: &[u32], told: &[u64], point: &[u32], place: u32, c: u32) -> Line
-    requires { ⌜ Answers (now told) ⌝ }
     ensures { λ r. ⌜ r ≡ lineOf (now (table .entry)) (now (own .entry)) (now (told .entry)) (now (point .entry)) place c ⌝ }
 {
     let at = c as usize;
@@ -114,7 +122,6 @@ fn put_lines(
     point: &[u32],
     list: &[u32],
 ) -> usize
-    requires { ⌜ Answers (now told) ⌝ }
     ensures { λ r. ⌜ Wrote (now (out .entry)) (now (out .exit)) 0 r (linesText (now (table .entry)) (now (own .entry)) (now (told .entry)) (now (point .entry)) (now (list .entry)) listed) ⌝ }
 {
     let mut i: u32 = 0;
@@ -141,7 +148,7 @@ fn put_last(out: &mut [u8], at: usize, t: Trace) -> usize
 }
 
 // The whole sheet, from the front of the buffer on.
-pub(crate) fn put_sheet(
+pub fn put_sheet(
     out: &mut [u8],
     t: Trace,
     table: &[u8],
@@ -150,7 +157,6 @@ pub(crate) fn put_sheet(
     point: &[u32],
     list: &[u32],
 ) -> usize
-    requires { ⌜ Answers (now told) ⌝ }
     ensures { λ r. ⌜ Wrote (now (out .entry)) (now (out .exit)) 0 r (sheetText t (now (table .entry)) (now (own .entry)) (now (told .entry)) (now (point .entry)) (now (list .entry))) ⌝ }
 {
     let listed = t.listed;
