@@ -17,8 +17,10 @@ use Rattle.run.specs.declared.Trace.{Trace}
 use Rattle.run.specs.Drive.{runOfFile}
 use Rattle.run.specs.Trace.{padded, fit, traceBy, traceOf, lentRow, TracedTo}
 use Rattle.sheet.specs.declared.Reported.{Reported}
+use Rattle.limits.specs.Small.{SmallNumbers}
+use Rattle.limits.proofs.Promised.{small-numbers}
 use Rattle.lines.specs.Lines.{lastText, sheetText}
-use Rattle.sheet.specs.Report.{reportText, reported, reportOf, reportedOn, LaidOn, ReportedTo, AlwaysEnough, ReportSettled}
+use Rattle.sheet.specs.Report.{reportText, reported, reportOf, reportedOn, LaidOn, ReportedTo, AlwaysEnough, AnswersWhole, ReportSettled}
 use Rattle.sheet.proofs.Listing.{lines-padded}
 use Rattle.sheet.proofs.Lengths.{length-report}
 
@@ -115,6 +117,12 @@ always-enough file room h enough =
     let k = le-ltb room (length (reportText file)) (omega arith) in
     simp (b, k) (sym z))
     (λ b. rw b)
+
+pub answers-whole : AnswersWhole
+unfolding AnswersWhole SmallNumbers
+answers-whole file h well c =
+    let few = small-numbers file h well .told c in
+    omega arith
 
 pub settled : ReportSettled
 unfolding ReportSettled

@@ -5,7 +5,7 @@ ghost use lib.Dec.{leb};
 ghost use lib.ListN.{length};
 ghost use Rattle.runfile.specs.Reading.{readOf, tableOf};
 ghost use Rattle.lines.specs.Lines.{sheetText};
-ghost use Rattle.sheet.specs.Report.{LaidOn, ReportedTo, AlwaysEnough, ReportSettled};
+ghost use Rattle.sheet.specs.Report.{LaidOn, ReportedTo, AlwaysEnough, AnswersWhole, ReportSettled};
 use crate::Reported;
 use lines::put_sheet;
 use run::Trace;
@@ -107,6 +107,11 @@ pub fn report(file: &[u8], out: &mut [u8]) -> Reported
 // A buffer of 40,960 bytes is always enough.
 pub fn buffer_is_enough()
     ensures { λ r. ⌜ AlwaysEnough ⌝ }
+{}
+
+// The answers that a report prints are those that were told, whole.
+pub fn answers_are_whole()
+    ensures { λ r. ⌜ AnswersWhole ⌝ }
 {}
 
 // The contract of the report allows one answer and one buffer for each input.
