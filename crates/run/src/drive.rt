@@ -1,5 +1,6 @@
 // The run loop: it keeps its own bench in place, takes what a turn reaches, moves it and puts it back, and keeps the book.
 // It assumes a sound bench, good turns and good calls, and keeps the bench sound, so that no turn tests it.
+// A station's record is read for the idle test and again after it, so that an idle turn loads no more of it than the place.
 ghost use mathlib.Core.Path.{_≡_};
 ghost use Prim.Native.Nat.{_≤_};
 ghost use Rattle.run.specs.Drive.{Ready, Driven};
