@@ -14,7 +14,8 @@ use Rattle.reach.specs.Step.{countLimit}
 use Rattle.bench.specs.declared.Bench.{Bench}
 use Rattle.method.specs.Record.{resting}
 use Rattle.bench.specs.Record.{blank, stationAt}
-use Rattle.bench.specs.Sound.{stationLimit, sound}
+use Rattle.rules.specs.Limits.{stationLimit}
+use Rattle.bench.specs.Sound.{sound}
 use Rattle.bench.specs.Turn.{freshOf}
 use Rattle.bench.specs.Promise.{Turn, turnBy, KeptSound}
 use Rattle.bench.proofs.Sounds.{StationKept, Sound, facts, holds}

@@ -1,4 +1,5 @@
 pub mod Record
 pub mod Sound
 pub mod Turn
+pub mod Points
 pub mod Promise

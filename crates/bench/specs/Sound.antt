@@ -4,17 +4,15 @@ use mathlib.Core.List.{List, [], _∷_}
 use Prim.Native.Nat.{ℕ, zero, suc}
 use lib.Dec.{leb, ltb, eqb}
 use Rattle.card.specs.declared.Halves.{Halves}
+use Rattle.rules.specs.Limits.{stationLimit}
 use Rattle.rules.specs.Test.{Test, same, differ, atMost, even, oneOf, Rule, given, always, allKept}
 use Rattle.method.specs.declared.Place.{Place}
 use Rattle.method.specs.declared.Place.the-variants.{Rest, At11, At12, At13, At14, At15, At16, At18, At19, At20}
 use Rattle.method.specs.declared.Station.{Station}
 use Rattle.reach.specs.Step.{countLimit, versionLimit}
 use Rattle.bench.specs.declared.Bench.{Bench}
-use Rattle.method.specs.Record.{num}
+use Rattle.method.specs.Record.{num, atRest}
 use Rattle.bench.specs.Record.{stationAt, aAt, rAt}
-
-abbrev pub stationLimit : ℕ
-stationLimit = 32
 
 -- n is 1 to 32
 abbrev pub fewStations : Bench → Rule
@@ -60,7 +58,7 @@ stationAbove n i p t = given (ltb n i) (same (t .c) 0 ∷ same (num p) 0 ∷ zer
 
 -- resting stations hold zero in all but c
 abbrev pub restsZero : Place → Station → Rule
-restsZero p t = given (eqb (num p) 0) (zeroButCount t)
+restsZero p t = given (atRest p) (zeroButCount t)
 
 -- own turns are 0 at rest; 1, 2, 3, 4, 5, 6 at places 11 to 16; 7 at 18; 8 at 19; 7 or 9 at 20
 abbrev pub ownTurns : Place → ℕ → Test
@@ -82,7 +80,7 @@ called limit n t =
     ∷ atMost (t .entry .first) limit ∷ []
 
 abbrev pub inCall : ℕ → ℕ → Place → Station → Rule
-inCall limit n p t = given (not (eqb (num p) 0)) (called limit n t)
+inCall limit n p t = given (not (atRest p)) (called limit n t)
 
 -- at 11, c is at most 65,534: below the limit
 abbrev pub roomAt11 : ℕ → Place → Station → Rule

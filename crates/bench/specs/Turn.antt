@@ -4,17 +4,14 @@ use mathlib.Core.List.{List, [], _∷_}
 use Prim.Native.Nat.{ℕ}
 use lib.Dec.{ltb, eqb}
 use Rattle.method.specs.Table.{row}
+use Rattle.rules.specs.Limits.{stationLimit, badStation}
 use Rattle.rules.specs.Refusal.{Refusal, refusal, refusalOf}
 use Rattle.reach.specs.Step.{beginRefusals, orRefused}
 use Rattle.bench.specs.declared.Bench.{Bench}
 use Rattle.bench.specs.declared.Turned.{Turned}
 use Rattle.bench.specs.declared.Made.{Made}
 use Rattle.bench.specs.Record.{blank, stationAt, onBench}
-use Rattle.bench.specs.Sound.{stationLimit, sound}
-
--- 10: station 0 or over n
-abbrev pub badStation : Bench → ℕ → Bool
-badStation w i = eqb i 0 || ltb (w .n) i
+use Rattle.bench.specs.Sound.{sound}
 
 -- 11: offered kind over 3, or read or none with a or b not 0
 abbrev pub badOffer : ℕ → ℕ → ℕ → Bool
@@ -22,7 +19,7 @@ badOffer kind a b = ltb 3 kind || ((eqb kind 0 || eqb kind 3) && (not (eqb a 0) 
 
 abbrev pub turnRefusals : Bench → ℕ → ℕ → ℕ → ℕ → List Refusal
 turnRefusals w i kind a b =
-    refusal 9 (not (sound w)) ∷ refusal 10 (badStation w i) ∷ refusal 11 (badOffer kind a b)
+    refusal 9 (not (sound w)) ∷ refusal 10 (badStation (w .n) i) ∷ refusal 11 (badOffer kind a b)
     ∷ beginRefusals (w .v) (stationAt w i .place) (stationAt w i) kind
 
 unfoldable pub turnOf : Bench → ℕ → ℕ → ℕ → ℕ → Turned

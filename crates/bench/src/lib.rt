@@ -37,11 +37,11 @@ pub struct Made {
 }
 
 impl Bench {
-    pub const STATIONS: u32 = 32;
+    pub const STATIONS: u32 = rules::STATIONS;
 
-    pub const CALLS: u32 = 1024;
+    pub const CALLS: u32 = rules::CALLS;
 
-    pub const TURNS: u32 = 40960;
+    pub const TURNS: u32 = rules::TURNS;
     // The largest count of a station.
     pub const COUNT: u32 = Reach::COUNT;
     // The largest version that a contest may start from.

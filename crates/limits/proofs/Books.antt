@@ -12,7 +12,7 @@ use lib.Seq.{getD-set-other}
 use Rattle.rules.proofs.Facts.{either-way, and-left, and-right}
 use Rattle.method.specs.declared.Answer.{Answer}
 use Rattle.method.specs.declared.Answer.the-variants.{Idle, Going, Ended, Refused}
-use Rattle.method.specs.Record.{num}
+use Rattle.method.specs.Record.{atRest}
 use Rattle.method.specs.Record as Answers
 use Rattle.method.specs.Effect.{oneWord, points}
 use Rattle.bench.specs.declared.Bench.{Bench}
@@ -190,12 +190,12 @@ module _ (table : List ℕ) (few : records table ≤ 1024) (w : Bench) (k i c ow
       let t = stationAt w i in
       later
       (all-entering (k + 1) (points oneWord (stationAt w) (w .n) i (t .place) (w .v) t Going) (omega arith) (omega arith)
-      (acting (eqb (num (t .place)) 0) i c (callAfter table i c) own small (call-after table i c few) short f))
+      (acting (atRest (t .place)) i c (callAfter table i c) own small (call-after table i c few) short f))
       (omega arith) (omega arith)
   noting (Ended result took) g h =
       let t = stationAt w i in
       ending
       (all-entering (k + 1) (points oneWord (stationAt w) (w .n) i (t .place) (w .v) t (Ended result took)) (omega arith) (omega arith)
-      (acting (eqb (num (t .place)) 0) i c (callAfter table i c) took small (call-after table i c few) h f))
+      (acting (atRest (t .place)) i c (callAfter table i c) took small (call-after table i c few) h f))
       c result g
   noting (Refused number) g h = later f (omega arith) (omega arith)

@@ -4,10 +4,9 @@ use mathlib.Core.Bool.{true}
 use mathlib.Core.List.{List, [], _∷_}
 use Prim.Native.Nat.{ℕ, suc, _+_, _<_, _≤_}
 use native.Mathlib.Omega.{arith}
-use lib.Dec.{eqb}
 use lib.ListN.{length, getD}
 use Rattle.octets.specs.Bytes.{AllBytes}
-use Rattle.method.specs.Record.{num}
+use Rattle.method.specs.Record.{atRest}
 use Rattle.bench.specs.Record.{blank, stationAt}
 use Rattle.bench.specs.Sound.{sound}
 use Rattle.bench.specs.Turn.{freshOf}
@@ -70,7 +69,7 @@ module _ (table : List ℕ) (few : records table ≤ 1024) where
           within = g .within;
           book =
               noting table few w (s .turns) i (callFor p d (getD (s .book .latest) i 0)) (stationAt (x .bench) i .own)
-              (chosen (λ c. c < 1025) (eqb (num p) 0) (f .book .upcoming i) (f .book .latest i))
+              (chosen (λ c. c < 1025) (atRest p) (f .book .upcoming i) (f .book .latest i))
               (omega (arith, ready-at (x .bench) i y h .0)) (s .book) (f .book) (x .answer) (g .result) (g .own);
         }
 

@@ -13,7 +13,7 @@ use Rattle.method.specs.declared.Station.{Station}
 use Rattle.method.specs.Record.{num, call, resting}
 use Rattle.method.specs.Table.{handed, begun, row5, row}
 use Rattle.method.specs.Effect.{points}
-use Rattle.method.specs.World.{World, Stepped, putStation, putWord, onWorld, Turn}
+use Rattle.method.specs.World.{World, Stepped, putStation, putWord, onWorld, WorldTurn}
 use Rattle.method.specs.Watch.{answer, left, Agrees, Phase, Free, Begun, Event, Begin, Point, End, putPhase}
 use Rattle.method.specs.Events.{eventsAt}
 use Rattle.method.proofs.Upd.{upd-same, upd-other, upd-all}
@@ -108,7 +108,7 @@ by-test P true x y f g = f refl
 by-test P false x y f g = g refl
 
 -- a turn of a station at rest
-module _ {n : ℕ} {w : World} (k : Kept n w) (u : Turn) (e : w .st (u .station) .place ≡ Rest) (low : 1 ≤ u .station) (high : u .station ≤ n) where
+module _ {n : ℕ} {w : World} (k : Kept n w) (u : WorldTurn) (e : w .st (u .station) .place ≡ Rest) (low : 1 ≤ u .station) (high : u .station ≤ n) where
   abbrev i : ℕ
   i = u .station
 

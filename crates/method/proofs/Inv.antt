@@ -6,7 +6,7 @@ use native.Mathlib.Omega.{arith}
 use native.Mathlib.Decide.{decLt}
 use borrow.Author.Needs.{needs}
 use Rattle.method.specs.Record.{num}
-use Rattle.method.specs.World.{World, Turn, turnOf, fresh}
+use Rattle.method.specs.World.{World, WorldTurn, worldTurn, fresh}
 use Rattle.method.specs.Watch.{Free, Watcher, watching, watched, Good}
 use Rattle.method.specs.Events.{shown}
 use Rattle.method.specs.Promise.{EveryRunIsGood}
@@ -40,10 +40,10 @@ pub start : (n : ℕ) (x : ℕ → ℕ) → Inv n (fresh x) (watching x)
 start n x = record { kept = fresh-kept n x; watcher = refl }
 
 module _ {n : ℕ} {w : World} {m : Watcher} (h : Inv n w m) where
-  pub turn : (u : Turn) → 1 ≤ u .station → u .station ≤ n → Good m (shown n w u) × Inv n (turnOf w u .world) (watched m (shown n w u))
+  pub turn : (u : WorldTurn) → 1 ≤ u .station → u .station ≤ n → Good m (shown n w u) × Inv n (worldTurn w u .world) (watched m (shown n w u))
   turn u low high =
       let f = turns (h .kept) u low high in
-      subst⁻¹ (λ (m : Watcher). Good m (shown n w u) × Inv n (turnOf w u .world) (watched m (shown n w u))) (h .watcher)
+      subst⁻¹ (λ (m : Watcher). Good m (shown n w u) × Inv n (worldTurn w u .world) (watched m (shown n w u))) (h .watcher)
       (f .leads .good, record { kept = f .kept; watcher = f .leads .ends })
 
   -- the watcher's words are V's values

@@ -10,7 +10,7 @@ use Rattle.card.specs.declared.Halves.{Halves}
 use Rattle.card.specs.declared.Claim.{Claim}
 use Rattle.method.specs.declared.Place.{Place}
 use Rattle.method.specs.declared.Station.{Station}
-use Rattle.method.specs.Record.{num}
+use Rattle.method.specs.Record.{num, atRest}
 use Rattle.method.specs.World.{World, putRegisters, putStation}
 use Rattle.method.specs.Watch.{Phase, Free, Begun, Done, Event, Watcher}
 use Rattle.method.proofs.Upd.{upd-all}
@@ -24,7 +24,7 @@ truth q r = cond (leb 13 (num q)) (r .second) 0
 
 -- a call is past its point where V is past its version
 abbrev pub phaseOf : Place → ℕ → Halves → Halves → Station → Phase
-phaseOf q z v r t = cond (eqb (num q) 0) Free (cond (ltb (t .s) (v .first)) (Done z (t .call) (truth q r)) (Begun z (t .call)))
+phaseOf q z v r t = cond (atRest q) Free (cond (ltb (t .s) (v .first)) (Done z (t .call) (truth q r)) (Begun z (t .call)))
 
 module _ (q : Place) (z : ℕ) (v r : Halves) (t : Station) where
   pub past-phase : 11 ≤ num q → t .s < v .first → phaseOf q z v r t ≡ Done z (t .call) (truth q r)

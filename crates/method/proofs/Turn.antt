@@ -11,8 +11,8 @@ use Rattle.method.specs.declared.Place.the-variants.{Rest, At11, At12, A
 use Rattle.method.specs.declared.Station.{Station}
 use Rattle.method.specs.Table.{row}
 use Rattle.method.specs.Effect.{points}
-use Rattle.method.specs.World.{World, Turn, turnAt, turnOf}
-use Rattle.method.specs.Events.{eventsAt, eventsOf, shown, after, shownBy}
+use Rattle.method.specs.World.{World, WorldTurn, turnAt, worldTurn}
+use Rattle.method.specs.Events.{eventsAt, eventsOf, shown, worldAfter, shownBy}
 use Rattle.method.specs.Promise.{Among}
 use Rattle.method.proofs.Watched.{leads-none, leads-on}
 use Rattle.method.proofs.Kept.{Kept}
@@ -22,7 +22,7 @@ use Rattle.method.proofs.Ends.{rests, ends-at-20}
 use Rattle.method.proofs.Raise.{raised}
 
 module _ {n : ℕ} where
-  module _ {w : World} (k : Kept n w) (u : Turn) (low : 1 ≤ u .station) (high : u .station ≤ n) where
+  module _ {w : World} (k : Kept n w) (u : WorldTurn) (low : 1 ≤ u .station) (high : u .station ≤ n) where
     abbrev i : ℕ
     i = u .station
 
@@ -47,14 +47,14 @@ module _ {n : ℕ} where
         (λ no. rw no (silent-19 k i e (ltb-false first seq no)))
     by-place At20 e = ends-at-20 k i e
 
-    pub turns : Next n w (shown n w u) (turnOf w u .world)
-    unfolding turnOf eventsOf
+    pub turns : Next n w (shown n w u) (worldTurn w u .world)
+    unfolding worldTurn eventsOf
     turns = by-place (t .place) refl
 
-  pub runs : (us : List Turn) {w : World} → Kept n w → Among n us → Next n w (shownBy n w us) (after w us)
-  unfolding shownBy after Among
+  pub runs : (us : List WorldTurn) {w : World} → Kept n w → Among n us → Next n w (shownBy n w us) (worldAfter w us)
+  unfolding shownBy worldAfter Among
   runs [] {w} k h = record { leads = leads-none (seen w); kept = k }
   runs (u ∷ us) {w} k h =
       let f = turns k u (h .0) (h .1) in
       let g = runs us (f .kept) (h .2) in
-      record { leads = leads-on (shown n w u) (shownBy n (turnOf w u .world) us) (f .leads) (g .leads); kept = g .kept }
+      record { leads = leads-on (shown n w u) (shownBy n (worldTurn w u .world) us) (f .leads) (g .leads); kept = g .kept }

@@ -10,7 +10,7 @@ use Rattle.method.specs.declared.Place.{Place}
 use Rattle.method.specs.declared.Station.{Station}
 use Rattle.method.specs.declared.Answer.{Answer}
 use Rattle.method.specs.declared.Answer.the-variants.{Idle, Going, Ended, Refused}
-use Rattle.method.specs.Record.{num}
+use Rattle.method.specs.Record.{num, atRest}
 
 abbrev pub oneWord : ℕ → ℕ
 oneWord i = 0
@@ -34,5 +34,5 @@ losers word i saw st (suc k) = losers word i saw st k ++ cond (loses word i saw 
 unfoldable pub points : (ℕ → ℕ) → (ℕ → Station) → ℕ → ℕ → Place → Halves → Station → Answer → List ℕ
 points word st n i p v t Idle = []
 points word st n i p v t Going = cond (raises p v t) (t .saw .pid ∷ losers word i (t .saw) st n) []
-points word st n i p v t (Ended result own) = cond (eqb (num p) 0) (i ∷ []) []
+points word st n i p v t (Ended result own) = cond (atRest p) (i ∷ []) []
 points word st n i p v t (Refused number) = []

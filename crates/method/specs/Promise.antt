@@ -2,20 +2,20 @@
 use mathlib.Core.Path.{_≡_}
 use mathlib.Core.List.{List, [], _∷_}
 use Prim.Native.Nat.{ℕ, _≤_}
-use Rattle.method.specs.World.{Turn, fresh}
+use Rattle.method.specs.World.{WorldTurn, fresh}
 use Rattle.method.specs.Watch.{watching, watched, Good}
-use Rattle.method.specs.Events.{after, shownBy}
+use Rattle.method.specs.Events.{worldAfter, shownBy}
 
 -- every turn is of one of n stations
-unfoldable pub Among : ℕ → List Turn → Type 0
+unfoldable pub Among : ℕ → List WorldTurn → Type 0
 Among n [] = Unit {0}
 Among n (u ∷ us) = (1 ≤ u .station) × (u .station ≤ n) × Among n us
 
 -- the run's events are good, and V ends as the words that they leave
-pub record GoodRun (n : ℕ) (x : ℕ → ℕ) (us : List Turn) : Type 0 where
+pub record GoodRun (n : ℕ) (x : ℕ → ℕ) (us : List WorldTurn) : Type 0 where
   pub good : Good (watching x) (shownBy n (fresh x) us)
-  pub values : (z : ℕ) → after (fresh x) us .v z .second ≡ watched (watching x) (shownBy n (fresh x) us) .words z
+  pub values : (z : ℕ) → worldAfter (fresh x) us .v z .second ≡ watched (watching x) (shownBy n (fresh x) us) .words z
 
 -- for any number of stations, any words and any offers
 unfoldable pub EveryRunIsGood : Type 0
-EveryRunIsGood = (n : ℕ) (x : ℕ → ℕ) (us : List Turn) → Among n us → GoodRun n x us
+EveryRunIsGood = (n : ℕ) (x : ℕ → ℕ) (us : List WorldTurn) → Among n us → GoodRun n x us

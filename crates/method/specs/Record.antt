@@ -1,5 +1,7 @@
 -- A station's record and a turn's answer. Assumes nothing.
+use mathlib.Core.Bool.{Bool}
 use Prim.Native.Nat.{ℕ}
+use lib.Dec.{eqb}
 use Rattle.card.specs.declared.Halves.{Halves}
 use Rattle.card.specs.declared.Claim.{Claim}
 use Rattle.card.specs.Register.{halves, claim}
@@ -22,6 +24,9 @@ num At16 = 16
 num At18 = 18
 num At19 = 19
 num At20 = 20
+
+abbrev pub atRest : Place → Bool
+atRest p = eqb (num p) 0
 
 abbrev pub call : ℕ → ℕ → ℕ → Call
 call k a b = record { kind = k; a = a; b = b }

@@ -9,7 +9,7 @@ use Rattle.card.specs.Register.{halves, claim}
 use Rattle.method.specs.declared.Place.{Place}
 use Rattle.method.specs.declared.Station.{Station}
 use Rattle.method.specs.declared.Answer.{Answer}
-use Rattle.method.specs.Record.{num, resting}
+use Rattle.method.specs.Record.{atRest, resting}
 use Rattle.method.specs.Table.{Access, row}
 
 -- the function f, but x at i
@@ -57,7 +57,7 @@ onWorld =
     }
 
 -- a turn is given a station and an offered call of a word
-pub record Turn : Type 0 where
+pub record WorldTurn : Type 0 where
   pub station : ℕ
   pub word : ℕ
   pub kind : ℕ
@@ -65,15 +65,15 @@ pub record Turn : Type 0 where
   pub b : ℕ
 
 -- a station at rest takes the offered word first
-abbrev pub taking : Place → Turn → World → World
-taking q u w = cond (eqb (num q) 0) (putWord (u .station) (u .word) w) w
+abbrev pub taking : Place → WorldTurn → World → World
+taking q u w = cond (atRest q) (putWord (u .station) (u .word) w) w
 
 -- a turn of a station at place q: the table's row
-abbrev pub turnAt : Place → World → Turn → Stepped
+abbrev pub turnAt : Place → World → WorldTurn → Stepped
 turnAt q w u = row onWorld q (taking q u w) (u .station) (w .st (u .station)) (u .kind) (u .a) (u .b)
 
-unfoldable pub turnOf : World → Turn → Stepped
-turnOf w u = turnAt (w .st (u .station) .place) w u
+unfoldable pub worldTurn : World → WorldTurn → Stepped
+worldTurn w u = turnAt (w .st (u .station) .place) w u
 
 -- every station at rest with count 0, all registers zero but V, which is (0, x) by word
 abbrev pub fresh : (ℕ → ℕ) → World

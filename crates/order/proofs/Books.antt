@@ -12,12 +12,13 @@ use Rattle.rules.proofs.Facts.{either-way}
 use Rattle.method.specs.declared.Call.{Call}
 use Rattle.method.specs.declared.Answer.{Answer}
 use Rattle.method.specs.declared.Answer.the-variants.{Idle, Going, Ended, Refused}
-use Rattle.method.specs.Record.{num, call}
+use Rattle.method.specs.Record.{atRest, call}
 use Rattle.method.specs.World.{upd}
 use Rattle.method.specs.Events.{operates}
 use Rattle.method.proofs.Upd.{upd-same, upd-other, upd-all}
 use Rattle.bench.specs.declared.Bench.{Bench}
 use Rattle.bench.specs.Record.{stationAt}
+use Rattle.bench.specs.Points.{pointsIn}
 use Rattle.bench.specs.Promise.{Turn}
 use Rattle.run.specs.Calls.{callAfter, callFor}
 use Rattle.run.specs.Rows.{enterCall}
@@ -25,7 +26,7 @@ use Rattle.run.specs.Book.{Book}
 use Rattle.run.specs.Book as Book
 use Rattle.run.specs.Run.{noted}
 use Rattle.run.proofs.Books as Rows
-use Rattle.order.specs.Log.{Log, enters, allEnter, ends, acts, pointsIn, logged}
+use Rattle.order.specs.Log.{Log, enters, allEnter, ends, acts, logged}
 use Rattle.order.proofs.Same.{opening, enter-all}
 
 -- a row of a book that holds a function of the log
@@ -138,7 +139,7 @@ module _ {b : Book} {g : Log} (m : Matches b g) (table : List ℕ) (w : Bench) (
   i = u .station
 
   abbrev rests : Bool
-  rests = eqb (num (stationAt w i .place)) 0
+  rests = atRest (stationAt w i .place)
 
   abbrev o : Call
   o = call (u .kind) (u .a) (u .b)
@@ -167,13 +168,13 @@ enter-upcoming : (now : ℕ) (js : List ℕ) (b : Book) → Book.allEnter now js
 enter-upcoming now js b = ap (λ (z : Book). z .upcoming) (sym (Rows.enter-all now js b))
 
 pub noted-upcoming : (table : List ℕ) (w : Bench) (now i c own : ℕ) (y : Answer) (b : Book)
-    → noted table w now i c own y b .upcoming ≡ cond (operates y && eqb (num (stationAt w i .place)) 0) (set (b .upcoming) i (callAfter table i c)) (b .upcoming)
+    → noted table w now i c own y b .upcoming ≡ cond (operates y && atRest (stationAt w i .place)) (set (b .upcoming) i (callAfter table i c)) (b .upcoming)
 unfolding noted
 noted-upcoming table w now i c own Idle b = refl
 noted-upcoming table w now i c own Going b =
-    enter-upcoming now (pointsIn w i Going) (Book.acts (eqb (num (stationAt w i .place)) 0) i c (callAfter table i c) own b)
-    ∙ acts-upcoming (eqb (num (stationAt w i .place)) 0) i c (callAfter table i c) own b
+    enter-upcoming now (pointsIn w i Going) (Book.acts (atRest (stationAt w i .place)) i c (callAfter table i c) own b)
+    ∙ acts-upcoming (atRest (stationAt w i .place)) i c (callAfter table i c) own b
 noted-upcoming table w now i c own (Ended result took) b =
-    enter-upcoming now (pointsIn w i (Ended result took)) (Book.acts (eqb (num (stationAt w i .place)) 0) i c (callAfter table i c) took b)
-    ∙ acts-upcoming (eqb (num (stationAt w i .place)) 0) i c (callAfter table i c) took b
+    enter-upcoming now (pointsIn w i (Ended result took)) (Book.acts (atRest (stationAt w i .place)) i c (callAfter table i c) took b)
+    ∙ acts-upcoming (atRest (stationAt w i .place)) i c (callAfter table i c) took b
 noted-upcoming table w now i c own (Refused number) b = refl

@@ -40,7 +40,7 @@ abbrev pub view : Bench → World
 view w = record { v = only (halves 0 0) (w .v); p = only (claim 0 0 0) (w .p); a = aAt w; r = rAt w; st = stationAt w; word = oneWord }
 
 -- the turn u of that world
-abbrev pub ofWord : Turn → World.Turn
+abbrev pub ofWord : Turn → World.WorldTurn
 ofWord u = record { station = u .station; word = 0; kind = u .kind; a = u .a; b = u .b }
 
 abbrev shows : Turned → Stepped
@@ -161,7 +161,7 @@ pub record Follows (m : Watcher) (w : Bench) (u : Turn) (x : Turned) : Type 0 wh
   pub shape : Shape (w .n) (x .bench)
 
 pub follows : {m : Watcher} {w : Bench} → Shape (w .n) w → Inv (w .n) (view w) m → (u : Turn) → Follows m w u (turnBy w u)
-unfolding eventsOf points Good watched World.turnOf
+unfolding eventsOf points Good watched World.worldTurn
 follows {m} {w} s h u =
     let i = u .station in
     let t = stationAt w i in

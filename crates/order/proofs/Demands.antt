@@ -5,9 +5,8 @@ use mathlib.Core.List.{List, [], _∷_}
 use Prim.Native.Nat.{ℕ, _+_, _≤_, _<_}
 use native.Mathlib.Omega.{arith}
 use native.Mathlib.Decide.{decLe}
-use lib.Dec.{eqb}
 use lib.ListN.{getD}
-use Rattle.method.specs.Record.{num, call}
+use Rattle.method.specs.Record.{atRest, call}
 use Rattle.method.specs.Events.{operates}
 use Rattle.method.proofs.Upd.{upd-other}
 use Rattle.method.proofs.Inv.{values}
@@ -84,7 +83,7 @@ pub others-wait : (w : Bench) (now c : ℕ) (u : Turn) (g : Log) (d : ℕ) → (
 others-wait w now c u g d ne =
     let y = turnBy w u .answer in
     ap (λ (f : ℕ → ℕ). f d) (opens w now c u y g .first)
-    ∙ either (operates y && eqb (num (stationAt w (u .station) .place)) 0)
+    ∙ either (operates y && atRest (stationAt w (u .station) .place))
   where
     either : (b : Bool) → opening b now c (u .station) (call (u .kind) (u .a) (u .b)) g .first d ≡ g .first d
     either true = upd-other (g .first) c now d ne

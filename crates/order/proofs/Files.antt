@@ -10,7 +10,7 @@ use lib.Dec.{eqb}
 use lib.ListN.{length, getD, set}
 use Rattle.rules.proofs.Facts.{and-left, and-right}
 use Rattle.method.specs.declared.Answer.{Answer}
-use Rattle.method.specs.Record.{num, call}
+use Rattle.method.specs.Record.{atRest, call}
 use Rattle.method.specs.Events.{operates}
 use Rattle.bench.specs.declared.Bench.{Bench}
 use Rattle.bench.specs.Record.{blank, stationAt}
@@ -62,7 +62,7 @@ module _ {x n : ℕ} {table : List ℕ} {s : Run} {g : Log} (h : Filed x n table
   e = getD (s .book .upcoming) i 0
 
   abbrev rests : Bool
-  rests = eqb (num (stationAt w i .place)) 0
+  rests = atRest (stationAt w i .place)
 
   abbrev u : Turn
   u = offering table i (onOffer (stationAt w i .place) e)

@@ -8,12 +8,13 @@ use Rattle.rules.proofs.Facts.{either-way}
 use Rattle.method.specs.declared.Call.{Call}
 use Rattle.method.specs.declared.Answer.{Answer}
 use Rattle.method.specs.declared.Answer.the-variants.{Idle, Going, Ended, Refused}
-use Rattle.method.specs.Record.{num, call}
+use Rattle.method.specs.Record.{atRest, call}
 use Rattle.method.specs.Events.{operates}
 use Rattle.bench.specs.declared.Bench.{Bench}
 use Rattle.bench.specs.Record.{stationAt}
+use Rattle.bench.specs.Points.{pointsIn}
 use Rattle.bench.specs.Promise.{Turn}
-use Rattle.order.specs.Log.{Log, begins, enters, allEnter, acts, pointsIn, logged}
+use Rattle.order.specs.Log.{Log, begins, enters, allEnter, acts, logged}
 
 -- all but points and the list
 pub record Same (g′ g : Log) : Type 0 where
@@ -59,15 +60,15 @@ abbrev pub opening : Bool → ℕ → ℕ → ℕ → Call → Log → Log
 opening rests now c i o g = cond rests (begins now c i o g) g
 
 pub opens : (w : Bench) (now c : ℕ) (u : Turn) (y : Answer) (g : Log)
-    → Opened (logged w now c u y g) (opening (operates y && eqb (num (stationAt w (u .station) .place)) 0) now c (u .station) (call (u .kind) (u .a) (u .b)) g)
+    → Opened (logged w now c u y g) (opening (operates y && atRest (stationAt w (u .station) .place)) now c (u .station) (call (u .kind) (u .a) (u .b)) g)
 unfolding logged
 opens w now c u Idle g = record { station = refl; call = refl; first = refl }
 opens w now c u Going g =
     let i = u .station in
-    let e = enter-all now (pointsIn w i Going) (acts (eqb (num (stationAt w i .place)) 0) now c i (call (u .kind) (u .a) (u .b)) g) in
+    let e = enter-all now (pointsIn w i Going) (acts (atRest (stationAt w i .place)) now c i (call (u .kind) (u .a) (u .b)) g) in
     record { station = e .station; call = e .call; first = e .first }
 opens w now c u (Ended result own) g =
     let i = u .station in
-    let e = enter-all now (pointsIn w i (Ended result own)) (acts (eqb (num (stationAt w i .place)) 0) now c i (call (u .kind) (u .a) (u .b)) g) in
+    let e = enter-all now (pointsIn w i (Ended result own)) (acts (atRest (stationAt w i .place)) now c i (call (u .kind) (u .a) (u .b)) g) in
     record { station = e .station; call = e .call; first = e .first }
 opens w now c u (Refused number) g = record { station = refl; call = refl; first = refl }

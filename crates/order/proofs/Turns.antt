@@ -11,7 +11,7 @@ use lib.ListN.{length, List·getD-eq-default}
 use Rattle.method.specs.declared.Answer.{Answer}
 use Rattle.method.specs.declared.Answer.the-variants.{Idle, Going, Ended, Refused}
 use Rattle.method.specs.declared.Station.{Station}
-use Rattle.method.specs.Record.{num, call, resting}
+use Rattle.method.specs.Record.{num, atRest, call, resting}
 use Rattle.method.specs.Effect.{points}
 use Rattle.method.specs.World.{upd}
 use Rattle.method.specs.Watch.{Free, Point, End, Watcher, watching, watched, Good}
@@ -21,12 +21,13 @@ use Rattle.method.proofs.Inv.{Inv, free-is-rest}
 use Rattle.bench.specs.declared.Bench.{Bench}
 use Rattle.bench.specs.Record.{blank, stationAt}
 use Rattle.bench.specs.Sound.{sound}
+use Rattle.bench.specs.Points.{pointsIn}
 use Rattle.bench.specs.Promise.{Turn, turnBy, after, counted, operations, OwnTurns, OwnTurnsCount}
 use Rattle.bench.proofs.Sounds.{facts}
 use Rattle.bench.proofs.Promised.{turn-sound, kept-sound}
 use Rattle.run.proofs.Start.{fresh-bench}
 use Rattle.bench.proofs.Own.{own-turns}
-use Rattle.order.specs.Log.{Log, noCalls, begins, pointsIn, acts, logged}
+use Rattle.order.specs.Log.{Log, noCalls, begins, acts, logged}
 use Rattle.order.specs.Accepted.{times, Pairs, served}
 use Rattle.order.proofs.Bridge.{only, view, Shape, eventsIn, follows, begins-fresh}
 use Rattle.order.proofs.Kept.{in-call, Kept, Unbegun, no-end-yet, keeps-on, recount}
@@ -35,7 +36,7 @@ use Rattle.order.proofs.Owns.{Took, Owns, going, ended}
 use Rattle.order.proofs.Same.{enter-all, opening}
 
 -- a station at rest has had no own turns
-rest-owns : (w : Bench) (i : ℕ) → sound w ≡ true → length (w .stations) ≡ 33 → eqb (num (stationAt w i .place)) 0 ≡ true → stationAt w i .own ≡ 0
+rest-owns : (w : Bench) (i : ℕ) → sound w ≡ true → length (w .stations) ≡ 33 → atRest (stationAt w i .place) ≡ true → stationAt w i .own ≡ 0
 rest-owns w i s l e = elim (decLe (i + 1) 33) [
   | yes h ↦ (rw e at (facts w s .station i (omega arith) .stands .rest)) .0
   | no h ↦ ap (λ (t : Station). t .own) (List·getD-eq-default (w .stations) (resting 0) (omega arith))
@@ -46,7 +47,7 @@ module _ {x now : ℕ} (t : 1 ≤ now) {owns : ℕ → ℕ} {m : Watcher} {g : L
   i = u .station
 
   abbrev rests : Bool
-  rests = eqb (num (stationAt w i .place)) 0
+  rests = atRest (stationAt w i .place)
 
   module _ (zero : rests ≡ true → owns i ≡ 0) (busy : rests ≡ false → m .phase i ≡ Free → ⊥) where
     -- the own turns that are counted after an operation that goes on, and after one that ends
@@ -110,7 +111,7 @@ pub record Held (x now : ℕ) (w : Bench) (g : Log) : Type 0 where
 
 module _ {x now : ℕ} {w : Bench} {g : Log} (h : Held x now w g) (u : Turn) where
   -- a station at rest has had no own turns, and one that is not is not free
-  rest : let rests = eqb (num (stationAt w (u .station) .place)) 0 in
+  rest : let rests = atRest (stationAt w (u .station) .place) in
       (rests ≡ true → stationAt w (u .station) .own ≡ 0) × (rests ≡ false → h .m .phase (u .station) ≡ Free → ⊥)
   rest =
       let i = u .station in
@@ -129,7 +130,7 @@ module _ {x now : ℕ} {w : Bench} {g : Log} (h : Held x now w g) (u : Turn) whe
   same-size = follows (h .shape) (h .inv) u .shape .0
 
 pub turn-held : {x now : ℕ} {w : Bench} {g : Log} → Held x now w g → (c : ℕ) (u : Turn)
-    → (operates (turnBy w u .answer) ≡ true → eqb (num (stationAt w (u .station) .place)) 0 ≡ true → Unbegun g c)
+    → (operates (turnBy w u .answer) ≡ true → atRest (stationAt w (u .station) .place) ≡ true → Unbegun g c)
     → Held x (now + 1) (turnBy w u .bench) (logged w (now + 1) c u (turnBy w u .answer) g)
 unfolding after
 turn-held {x} {now} {w} {g} h c u free =
@@ -151,12 +152,12 @@ turn-held {x} {now} {w} {g} h c u free =
 
 -- what the call of an operation has had before it is what its station has
 pub turn-had : {x now : ℕ} {w : Bench} {g : Log} → Held x now w g → (c : ℕ) (u : Turn)
-    → (eqb (num (stationAt w (u .station) .place)) 0 ≡ true → Unbegun g c)
-    → let b = opening (eqb (num (stationAt w (u .station) .place)) 0) (now + 1) c (u .station) (call (u .kind) (u .a) (u .b)) g in
+    → (atRest (stationAt w (u .station) .place) ≡ true → Unbegun g c)
+    → let b = opening (atRest (stationAt w (u .station) .place)) (now + 1) c (u .station) (call (u .kind) (u .a) (u .b)) g in
     b .own (b .latest (u .station)) ≡ stationAt w (u .station) .own
 turn-had {x} {now} {w} {g} h c u free =
     let r = rest h u in
-    begun-owns (omega arith) (keeps-on (h .kept) (now + 1) (omega arith)) w c u (r .0) (r .1) (h .owns) (eqb (num (stationAt w (u .station) .place)) 0)
+    begun-owns (omega arith) (keeps-on (h .kept) (now + 1) (omega arith)) w c u (r .0) (r .1) (h .owns) (atRest (stationAt w (u .station) .place))
     (λ e. (free e, r .0 e)) (r .1) .1 .0
 
 -- a fresh bench, and no calls

@@ -6,12 +6,12 @@ use lib.Dec.{eqb}
 use Rattle.method.specs.declared.Call.{Call}
 use Rattle.method.specs.declared.Answer.{Answer}
 use Rattle.method.specs.declared.Answer.the-variants.{Idle, Going, Ended, Refused}
-use Rattle.method.specs.Record.{num, call}
-use Rattle.method.specs.Effect.{oneWord, points}
+use Rattle.method.specs.Record.{atRest, call}
 use Rattle.method.specs.World.{upd}
 use Rattle.bench.specs.declared.Bench.{Bench}
 use Rattle.bench.specs.Record.{stationAt}
 use Rattle.bench.specs.Turn.{freshOf}
+use Rattle.bench.specs.Points.{pointsIn}
 use Rattle.bench.specs.Promise.{Turn, turnBy}
 
 -- by call: its station, what it is, its first turn (0: not begun), the turn of its point (0: none), its last turn (0: not ended), its result, its own turns so far.
@@ -115,15 +115,11 @@ ends turn i result g =
 abbrev pub acts : Bool → ℕ → ℕ → ℕ → Call → Log → Log
 acts rests turn c i o g = works i (cond rests (begins turn c i o g) g)
 
--- the stations whose calls have their point in a turn of station i that is answered x
-abbrev pub pointsIn : Bench → ℕ → Answer → List ℕ
-pointsIn w i x = points oneWord (stationAt w) (w .n) i (stationAt w i .place) (w .v) (stationAt w i) x
-
 -- after its operation, the calls that have their point in the turn u enter
 abbrev pub entered : Bench → ℕ → ℕ → Turn → Answer → Log → Log
 entered w turn c u x g =
     let i = u .station in
-    allEnter turn (pointsIn w i x) (acts (eqb (num (stationAt w i .place)) 0) turn c i (call (u .kind) (u .a) (u .b)) g)
+    allEnter turn (pointsIn w i x) (acts (atRest (stationAt w i .place)) turn c i (call (u .kind) (u .a) (u .b)) g)
 
 -- one turn, by its answer: w is the bench before it, and c the number of the call on offer. An idle or refused turn changes nothing
 unfoldable pub logged : Bench → ℕ → ℕ → Turn → Answer → Log → Log

@@ -9,7 +9,7 @@ use Rattle.card.specs.Word as Word
 use Rattle.method.specs.declared.Place.{Place}
 use Rattle.method.specs.declared.Station.{Station}
 use Rattle.method.specs.declared.Answer.the-variants.{Refused}
-use Rattle.method.specs.Record.{num}
+use Rattle.method.specs.Record.{atRest}
 use Rattle.method.specs.Table.{Access, row}
 
 abbrev pub countLimit : ℕ
@@ -20,7 +20,7 @@ versionLimit = 4294967292
 
 -- a set or swap would begin: a station at rest, and an offer that is neither a read nor none
 abbrev pub wouldBegin : Place → ℕ → Bool
-wouldBegin p kind = eqb (num p) 0 && not (eqb kind 0 || eqb kind 3)
+wouldBegin p kind = atRest p && not (eqb kind 0 || eqb kind 3)
 
 -- 12 and 13: it would begin with c = 65,535, or with V.seq over 4,294,967,292
 abbrev pub beginRefusals : Halves → Place → Station → ℕ → List Refusal

@@ -1,3 +1,4 @@
 pub mod Test
 pub mod Refusal
 pub mod Row
+pub mod Limits

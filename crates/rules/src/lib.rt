@@ -3,6 +3,13 @@
 ghost use Rattle.rules.specs.Refusal.{Exact};
 ghost use Rattle.rules.specs.Row.{ExactRows};
 
+// The limits for stations, calls and turns (specs/Limits).
+pub const STATIONS: u32 = 32;
+
+pub const CALLS: u32 = 1024;
+
+pub const TURNS: u32 = 40960;
+
 // A refusal's number and its K; zeros where nothing is refused.
 pub struct Verdict {
     pub refused: u32,

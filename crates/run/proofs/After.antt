@@ -6,13 +6,12 @@ use mathlib.Core.List.{List}
 use Prim.Native.Nat.{ℕ, _+_, _<_, _≤_}
 use native.Mathlib.Omega.{arith}
 use native.Mathlib.Decide.{ℕ-discrete}
-use lib.Dec.{eqb}
 use lib.ListN.{length, getD, set, length-set}
 use lib.Seq.{getD-set-same, getD-set-other}
 use Rattle.method.specs.declared.Station.{Station}
 use Rattle.method.specs.declared.Answer.{Answer}
 use Rattle.method.specs.declared.Answer.the-variants.{Idle, Going, Ended, Refused}
-use Rattle.method.specs.Record.{num, resting}
+use Rattle.method.specs.Record.{atRest, resting}
 use Rattle.method.specs.Effect.{oneWord, points}
 use Rattle.bench.specs.declared.Bench.{Bench}
 use Rattle.bench.specs.Record.{stationAt}
@@ -64,12 +63,12 @@ unfolding noted
 noted-leaves table w turn i c own Idle b = record { upcoming = inl refl; latest = inl refl; own = refl; told = refl; idle = omega arith; begun = omega arith; ended = omega arith }
 noted-leaves table w turn i c own Going b =
     let t = stationAt w i in
-    enter-leaves turn (points oneWord (stationAt w) (w .n) i (t .place) (w .v) t Going) (acts-leaves (eqb (num (t .place)) 0) i c (callAfter table i c) own b)
+    enter-leaves turn (points oneWord (stationAt w) (w .n) i (t .place) (w .v) t Going) (acts-leaves (atRest (t .place)) i c (callAfter table i c) own b)
 noted-leaves table w turn i c own (Ended result took) b =
     let t = stationAt w i in
     let js = points oneWord (stationAt w) (w .n) i (t .place) (w .v) t (Ended result took) in
-    let a = acts (eqb (num (t .place)) 0) i c (callAfter table i c) took b in
-    let l = enter-leaves turn js (acts-leaves (eqb (num (t .place)) 0) i c (callAfter table i c) took b) in
+    let a = acts (atRest (t .place)) i c (callAfter table i c) took b in
+    let l = enter-leaves turn js (acts-leaves (atRest (t .place)) i c (callAfter table i c) took b) in
     record {
       upcoming = l .upcoming;
       latest = l .latest;
@@ -77,7 +76,7 @@ noted-leaves table w turn i c own (Ended result took) b =
       told = length-set (allEnter turn js a .told) c (result + 1) ∙ l .told;
       idle = l .idle;
       begun = l .begun;
-      ended = omega (arith, sym (ap (λ z. z .ended) (enter-all turn js a)), acts-ended (eqb (num (t .place)) 0) i c (callAfter table i c) took b);
+      ended = omega (arith, sym (ap (λ z. z .ended) (enter-all turn js a)), acts-ended (atRest (t .place)) i c (callAfter table i c) took b);
     }
 noted-leaves table w turn i c own (Refused number) b = record { upcoming = inl refl; latest = inl refl; own = refl; told = refl; idle = omega arith; begun = omega arith; ended = omega arith }
 

@@ -12,7 +12,8 @@ use Rattle.rules.proofs.Rows.{Clear}
 use Rattle.bench.specs.Turn.{badOffer}
 use Rattle.runfile.specs.declared.CallRecord.{CallRecord}
 use Rattle.runfile.specs.Layout.{part, field, zeroByte, records, noCall, callRecord, callBytes, callOf}
-use Rattle.runfile.specs.Reading.{badStation, badCall, badCallAt, badTurnAt, firstCall, firstTurn, partRows, trailerAt, turnCount, agrees, readOf, tableOf, turnsOf}
+use Rattle.rules.specs.Limits.{badStation}
+use Rattle.runfile.specs.Reading.{badCall, badCallAt, badTurnAt, firstCall, firstTurn, partRows, trailerAt, turnCount, agrees, readOf, tableOf, turnsOf}
 use Rattle.runfile.proofs.Answers.{by-answer}
 use Rattle.runfile.proofs.First.{searched}
 use Rattle.runfile.proofs.Limits.{within}

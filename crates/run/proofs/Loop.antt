@@ -20,7 +20,7 @@ use Rattle.method.specs.declared.Call.{Call}
 use Rattle.method.specs.declared.Station.{Station}
 use Rattle.method.specs.declared.Answer.{Answer}
 use Rattle.method.specs.declared.Answer.the-variants.{Idle, Going, Ended, Refused}
-use Rattle.method.specs.Record.{num, resting}
+use Rattle.method.specs.Record.{atRest, resting}
 use Rattle.method.specs.Record as Answers
 use Rattle.reach.specs.declared.Moved.{Moved}
 use Rattle.reach.specs.Step.{countLimit}
@@ -118,7 +118,7 @@ module _ (n : ℕ) (start : Run) (table turns next : List ℕ) (w : Bench) (head
 
   pub call-small : callFor p d l < 1025
   call-small =
-      either-way (eqb (num p) 0)
+      either-way (atRest p)
       (λ e. rw e (⊎-elim (λ z. omega arith) (λ m. omega (arith, m .1, good .calls)) (kept .rows .mine i inside)))
       (λ e. rw e (kept .rows .within i))
 
@@ -154,7 +154,7 @@ module _ (n : ℕ) (start : Run) (table turns next : List ℕ) (w : Bench) (head
   may-end = (holds, (fits, (kept .rows .within, (omega (arith, kept .begun, good .few), (omega (arith, kept .ended, good .few), kept .rows .tolds)))))
 
   -- a station at rest with no call left leaves all as it was, but for a turn and an idle turn more
-  idle-kept : eqb (num p) 0 ≡ true → d ≡ 0 → Kept n start table turns next w head latest wait own told point list (oneIdle s) (k + 1)
+  idle-kept : atRest p ≡ true → d ≡ 0 → Kept n start table turns next w head latest wait own told point list (oneIdle s) (k + 1)
   unfolding noted
   idle-kept rests none =
       let step : stepRun table (state w k b) i ≡ state w (k + 1) (idles b) =
@@ -187,16 +187,16 @@ module _ (n : ℕ) (start : Run) (table turns next : List ℕ) (w : Bench) (head
   pub after-idle : (errand : Errand) (test : Bool) (r : Tally) → errand ≡ e → test ≡ (errand .rests && eqb (errand .call) 0) → test ≡ true → r ≡ oneIdle s
       → Kept n start table turns next w head latest wait own told point list r (k + 1)
   after-idle errand test r errand-is tested taken idled =
-      let both : (eqb (num p) 0 && eqb (callFor p d l) 0) ≡ true = ap (λ x. x .rests && eqb (x .call) 0) (sym errand-is) ∙ sym tested ∙ taken in
-      let rests = and-left (eqb (num p) 0) (eqb (callFor p d l) 0) both in
+      let both : (atRest p && eqb (callFor p d l) 0) ≡ true = ap (λ x. x .rests && eqb (x .call) 0) (sym errand-is) ∙ sym tested ∙ taken in
+      let rests = and-left (atRest p) (eqb (callFor p d l) 0) both in
       let mine : callFor p d l ≡ d = rw rests refl in
-      rw idled (idle-kept rests (sym mine ∙ eqb-true (callFor p d l) 0 (and-right (eqb (num p) 0) (eqb (callFor p d l) 0) both)))
+      rw idled (idle-kept rests (sym mine ∙ eqb-true (callFor p d l) 0 (and-right (atRest p) (eqb (callFor p d l) 0) both)))
 
-  module _ (to : ℕ) (o : Call) (m : Moved) (reaches : to ≡ reaching p i t) (offers : o ≡ offer table (cond (eqb (num p) 0) (callFor p d l) 0))
+  module _ (to : ℕ) (o : Call) (m : Moved) (reaches : to ≡ reaching p i t) (offers : o ≡ offer table (cond (atRest p) (callFor p d l) 0))
       (moves : m ≡ moveOf (taken w i to) (o .kind) (o .a) (o .b)) where
     turned : putBack w i to m ≡ turnBy w (offering table i (onOffer p d))
     turned =
-        moved-turn w table i d l (kept .isSound) low high inside (good .offers) to (cond (eqb (num p) 0) (callFor p d l) 0) m refl reaches
+        moved-turn w table i d l (kept .isSound) low high inside (good .offers) to (cond (atRest p) (callFor p d l) 0) m refl reaches
         (moves ∙ ap (λ z. moveOf (taken w i to) (z .kind) (z .a) (z .b)) offers)
 
     abbrev w′ : Bench
@@ -206,7 +206,7 @@ module _ (n : ℕ) (start : Run) (table turns next : List ℕ) (w : Bench) (head
     ht = m .reach .station
 
     -- a turn that is not idle has a call on offer
-    begins : (m .answer ≡ Idle → ⊥) → eqb (num p) 0 ≡ true → 0 < d
+    begins : (m .answer ≡ Idle → ⊥) → atRest p ≡ true → 0 < d
     begins h e = acting w table i d (kept .isSound) low high e (λ q. h (ap (λ x. x .answer) turned ∙ q))
 
     pub noted-end : (result took : ℕ) → m .answer ≡ Ended result took

@@ -14,7 +14,7 @@ use Rattle.method.specs.declared.Place.{Place}
 use Rattle.method.specs.declared.Place.the-variants.{Rest, At11, At12, At13, At14, At15, At16, At18, At19, At20}
 use Rattle.method.specs.declared.Station.{Station}
 use Rattle.method.specs.declared.Answer.the-variants.{Idle, Going, Ended}
-use Rattle.method.specs.Record.{num}
+use Rattle.method.specs.Record.{num, atRest}
 use Rattle.method.specs.Table.{row}
 use Rattle.method.specs.Effect.{oneWord, raises, loses, losers, points}
 use Rattle.reach.specs.declared.Moved.{Moved}
@@ -24,7 +24,8 @@ use Rattle.bench.specs.declared.Bench.{Bench}
 use Rattle.bench.specs.Record.{stationAt, onBench}
 use Rattle.bench.specs.Record.{turned as benchTurned}
 use Rattle.bench.specs.Sound.{sound}
-use Rattle.bench.specs.Turn.{badStation, badOffer, turnOf}
+use Rattle.rules.specs.Limits.{badStation}
+use Rattle.bench.specs.Turn.{badOffer, turnOf}
 use Rattle.bench.specs.Promise.{turnBy}
 use Rattle.bench.proofs.Sounds.{ready-at}
 use Rattle.bench.proofs.Bridge.{taken, putBack, step-law}
@@ -37,17 +38,17 @@ use Rattle.run.specs.Run.{noted}
 use Rattle.run.proofs.Links.{none-after}
 
 -- on a sound bench, a turn of a good station with a good offer is refused 12 or 13 or is the table's row
-turn-is-step : (w : Bench) (i kind a b : ℕ) → sound w ≡ true → badStation w i ≡ false → badOffer kind a b ≡ false
+turn-is-step : (w : Bench) (i kind a b : ℕ) → sound w ≡ true → badStation (w .n) i ≡ false → badOffer kind a b ≡ false
     → turnOf w i kind a b ≡ stepOf onBench (stationAt w i .place) w i (stationAt w i) kind a b
 unfolding turnOf stepOf
 turn-is-step w i kind a b s p q = rw (s, p, q)
 
-station-good : (w : Bench) (i : ℕ) → 1 ≤ i → i ≤ w .n → badStation w i ≡ false
+station-good : (w : Bench) (i : ℕ) → 1 ≤ i → i ≤ w .n → badStation (w .n) i ≡ false
 station-good w i h g = rw (ne-eqb i 0 (λ e. omega arith), le-ltb (w .n) i g)
 
 -- what the errand offers is what the run offers
-same-offer : (p : Place) (d l : ℕ) → cond (eqb (num p) 0) (callFor p d l) 0 ≡ onOffer p d
-same-offer p d l = either-way (eqb (num p) 0) (λ e. rw e) (λ e. rw e)
+same-offer : (p : Place) (d l : ℕ) → cond (atRest p) (callFor p d l) 0 ≡ onOffer p d
+same-offer p d l = either-way (atRest p) (λ e. rw e) (λ e. rw e)
 
 -- the bench after the move, and its answer, are the turn's
 module _ (w : Bench) (table : List ℕ) (i d l : ℕ) (s : sound w ≡ true) (low : 1 ≤ i) (high : i ≤ w .n) (inside : i < 33)
@@ -55,7 +56,7 @@ module _ (w : Bench) (table : List ℕ) (i d l : ℕ) (s : sound w ≡ true) (lo
   abbrev p : Place
   p = stationAt w i .place
 
-  pub moved-turn : (k c : ℕ) (m : Moved) → c ≡ cond (eqb (num p) 0) (callFor p d l) 0 → k ≡ reaching p i (stationAt w i)
+  pub moved-turn : (k c : ℕ) (m : Moved) → c ≡ cond (atRest p) (callFor p d l) 0 → k ≡ reaching p i (stationAt w i)
       → m ≡ moveOf (taken w i k) (offer table c .kind) (offer table c .a) (offer table c .b) → putBack w i k m ≡ turnBy w (offering table i (onOffer p d))
   moved-turn k c m e q r =
       step-law w i k (offer table c .kind) (offer table c .a) (offer table c .b) m (ready-at w i s inside) q r
@@ -107,7 +108,7 @@ module _ (w : Bench) (wait : List ℕ) (i : ℕ) (t : Station) (seen : (j : ℕ)
       ∙ ap (λ x. losers oneWord i (t .saw) (stationAt w) k ++ cond x (suc k ∷ []) []) (one-waits (suc k) h g)
 
 -- a station at rest with no call on offer is idle
-idle-offer : (p : Place) (w : Bench) (i : ℕ) (t : Station) → eqb (num p) 0 ≡ true → stepOf onBench p w i t 3 0 0 ≡ benchTurned Idle w
+idle-offer : (p : Place) (w : Bench) (i : ℕ) (t : Station) → atRest p ≡ true → stepOf onBench p w i t 3 0 0 ≡ benchTurned Idle w
 unfolding stepOf row
 idle-offer Rest w i t e = refl
 idle-offer At11 w i t e = absurd (false≢true e)
@@ -120,7 +121,7 @@ idle-offer At18 w i t e = absurd (false≢true e)
 idle-offer At19 w i t e = absurd (false≢true e)
 idle-offer At20 w i t e = absurd (false≢true e)
 
-pub idle-turn : (w : Bench) (table : List ℕ) (i d : ℕ) → sound w ≡ true → 1 ≤ i → i ≤ w .n → eqb (num (stationAt w i .place)) 0 ≡ true → d ≡ 0
+pub idle-turn : (w : Bench) (table : List ℕ) (i d : ℕ) → sound w ≡ true → 1 ≤ i → i ≤ w .n → atRest (stationAt w i .place) ≡ true → d ≡ 0
     → turnBy w (offering table i (onOffer (stationAt w i .place) d)) ≡ benchTurned Idle w
 unfolding callOf
 idle-turn w table i d s low high e z =
@@ -129,7 +130,7 @@ idle-turn w table i d s low high e z =
     ap (λ c. turnBy w (offering table i c)) none ∙ turn-is-step w i 3 0 0 s (station-good w i low high) refl ∙ idle-offer p w i (stationAt w i) e
 
 -- so one that acts at rest has a call on offer
-pub acting : (w : Bench) (table : List ℕ) (i d : ℕ) → sound w ≡ true → 1 ≤ i → i ≤ w .n → eqb (num (stationAt w i .place)) 0 ≡ true
+pub acting : (w : Bench) (table : List ℕ) (i d : ℕ) → sound w ≡ true → 1 ≤ i → i ≤ w .n → atRest (stationAt w i .place) ≡ true
     → (turnBy w (offering table i (onOffer (stationAt w i .place) d)) .answer ≡ Idle → ⊥) → 0 < d
 acting w table i zero s low high e h = absurd (h (ap (λ x. x .answer) (idle-turn w table i 0 s low high e refl)))
 acting w table i (suc d) s low high e h = omega arith
@@ -144,20 +145,20 @@ module _ (w : Bench) (table next wait : List ℕ) (i d l turn : ℕ)
   abbrev here : Place
   here = t .place
 
-  same-acts : (turns : ℕ) (b : Book) → (eqb (num here) 0 ≡ true → 0 < d)
-      → acts (eqb (num here) 0) i (callFor here d l) (getD next (callFor here d l) 0) turns b ≡ acts (eqb (num here) 0) i (callFor here d l) (callAfter table i (callFor here d l)) turns b
+  same-acts : (turns : ℕ) (b : Book) → (atRest here ≡ true → 0 < d)
+      → acts (atRest here) i (callFor here d l) (getD next (callFor here d l) 0) turns b ≡ acts (atRest here) i (callFor here d l) (callAfter table i (callFor here d l)) turns b
   same-acts turns b h =
-      either-way (eqb (num here) 0)
+      either-way (atRest here)
       (λ e.
       let k : (callOf table d .station ≡ i) × (d ≤ records table) = ⊎-elim (λ z. absurd (let g = h e in omega arith)) (λ m. m) mine in
       rw (e, after d (h e) (k .1), k .0))
       (λ e. rw e)
 
-  pub ended-noted : (result took own : ℕ) (b : Book) → (eqb (num here) 0 ≡ true → 0 < d)
+  pub ended-noted : (result took own : ℕ) (b : Book) → (atRest here ≡ true → 0 < d)
       → finishes (errandOf here turn i d l) (record { result = result; own = took }) next b ≡ noted table w turn i (callFor here d l) own (Ended result took) b
   unfolding finishes noted points
   ended-noted result took own b h =
-      ap (λ z. ends (callFor here d l) result (allEnter turn (cond (eqb (num here) 0) (i ∷ []) []) z)) (same-acts took b h)
+      ap (λ z. ends (callFor here d l) result (allEnter turn (cond (atRest here) (i ∷ []) []) z)) (same-acts took b h)
 
   module _ (seen : (j : ℕ) → j < 33 → getD wait j 0 ≡ waits (stationAt w j)) (few : w .n < 33) where
     same-points : raisers (leftOf t (w .v) 0 (w .n)) wait ≡ points oneWord (stationAt w) (w .n) i here (w .v) t Going
@@ -171,9 +172,9 @@ module _ (w : Bench) (table next wait : List ℕ) (i d l turn : ℕ)
         rw e (ap (λ z. t .saw .pid ∷ z) (all-wait w wait i t seen (w .n) few (omega arith))))
         (λ e. rw e)
 
-    pub going-noted : (own : ℕ) (b : Book) → (eqb (num here) 0 ≡ true → 0 < d)
+    pub going-noted : (own : ℕ) (b : Book) → (atRest here ≡ true → 0 < d)
         → passes Going (errandOf here turn i d l) (leftOf t (w .v) own (w .n)) next wait b ≡ noted table w turn i (callFor here d l) own Going b
     unfolding passes noted
     going-noted own b h =
         ap (λ z. allEnter turn (raisers (leftOf t (w .v) 0 (w .n)) wait) z) (same-acts own b h)
-        ∙ ap (λ js. allEnter turn js (acts (eqb (num here) 0) i (callFor here d l) (callAfter table i (callFor here d l)) own b)) same-points
+        ∙ ap (λ js. allEnter turn js (acts (atRest here) i (callFor here d l) (callAfter table i (callFor here d l)) own b)) same-points

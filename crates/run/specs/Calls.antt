@@ -13,7 +13,7 @@ use Rattle.run.specs.declared.Went.{Went}
 use lib.ListN.{getD}
 use Rattle.method.specs.declared.Place.{Place}
 use Rattle.method.specs.declared.Call.{Call}
-use Rattle.method.specs.Record.{num, call}
+use Rattle.method.specs.Record.{num, atRest, call}
 use Rattle.bench.specs.Promise.{Turn}
 use Rattle.runfile.specs.First.{firstFrom}
 use Rattle.runfile.specs.Layout.{records, callOf}
@@ -35,14 +35,14 @@ offering table i c = record { station = i; kind = offer table c .kind; a = offer
 
 -- what is on offer in a turn of a station that stands at place p: its next call, and none while it is in one
 abbrev pub onOffer : Place → ℕ → ℕ
-onOffer p upcoming = cond (eqb (num p) 0) upcoming 0
+onOffer p upcoming = cond (atRest p) upcoming 0
 
 -- the call that the turn is for: the one on offer, or the one that the station is in
 abbrev pub callFor : Place → ℕ → ℕ → ℕ
-callFor p upcoming latest = cond (eqb (num p) 0) upcoming latest
+callFor p upcoming latest = cond (atRest p) upcoming latest
 
 abbrev pub errandOf : Place → ℕ → ℕ → ℕ → ℕ → Errand
-errandOf p turn i upcoming latest = record { turn = turn; station = i; call = callFor p upcoming latest; rests = eqb (num p) 0 }
+errandOf p turn i upcoming latest = record { turn = turn; station = i; call = callFor p upcoming latest; rests = atRest p }
 
 -- the V.seq that a station in a call waits for, s + 2; 0 at rest
 abbrev pub waits : Station → ℕ

@@ -1,15 +1,14 @@
 -- A run: the step table folded over the turns of a file, with the book that is kept of it. Assumes nothing.
 use mathlib.Core.List.{List, [], _∷_, _++_}
 use Prim.Native.Nat.{ℕ, zero, suc, _+_}
-use lib.Dec.{eqb}
 use lib.ListN.{getD, replicate}
 use Rattle.method.specs.declared.Answer.{Answer}
 use Rattle.method.specs.declared.Answer.the-variants.{Idle, Going, Ended, Refused}
-use Rattle.method.specs.Record.{num}
-use Rattle.method.specs.Effect.{oneWord, points}
+use Rattle.method.specs.Record.{atRest}
 use Rattle.bench.specs.declared.Bench.{Bench}
 use Rattle.bench.specs.Record.{stationAt}
 use Rattle.bench.specs.Turn.{freshOf}
+use Rattle.bench.specs.Points.{pointsIn}
 use Rattle.bench.specs.Promise.{Turn, turnBy}
 use Rattle.run.specs.Calls.{callAfter, offering, onOffer, callFor}
 use Rattle.run.specs.Book.{Book, acts, allEnter, ends, idles}
@@ -42,11 +41,9 @@ emptyBook table =
 unfoldable pub noted : List ℕ → Bench → ℕ → ℕ → ℕ → ℕ → Answer → Book → Book
 noted table w turn i c own Idle b = idles b
 noted table w turn i c own Going b =
-    let t = stationAt w i in
-    allEnter turn (points oneWord (stationAt w) (w .n) i (t .place) (w .v) t Going) (acts (eqb (num (t .place)) 0) i c (callAfter table i c) own b)
+    allEnter turn (pointsIn w i Going) (acts (atRest (stationAt w i .place)) i c (callAfter table i c) own b)
 noted table w turn i c own (Ended result took) b =
-    let t = stationAt w i in
-    ends c result (allEnter turn (points oneWord (stationAt w) (w .n) i (t .place) (w .v) t (Ended result took)) (acts (eqb (num (t .place)) 0) i c (callAfter table i c) took b))
+    ends c result (allEnter turn (pointsIn w i (Ended result took)) (acts (atRest (stationAt w i .place)) i c (callAfter table i c) took b))
 noted table w turn i c own (Refused number) b = b
 
 -- what a turn of station i is given: the station, and its next call where it is at rest

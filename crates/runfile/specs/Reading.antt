@@ -5,15 +5,12 @@ use Prim.Native.Nat.{ℕ, _+_, _*_, _-_}
 use lib.Dec.{eqb, ltb}
 use lib.ListN.{length, getD}
 use Rattle.rules.specs.declared.Verdict.{Verdict}
+use Rattle.rules.specs.Limits.{stationLimit, callLimit, turnLimit, badStation}
 use Rattle.rules.specs.Row.{Row, row, verdictOf}
 use Rattle.runfile.specs.declared.Trailer.{Trailer}
 use Rattle.runfile.specs.declared.ReadAnswer.{ReadAnswer}
 use Rattle.runfile.specs.First.{firstOf}
 use Rattle.runfile.specs.Layout.{part, field, zeroByte, records, callBytes, trailerOf}
-
--- a station of 0 or over n
-abbrev pub badStation : ℕ → ℕ → Bool
-badStation n station = eqb station 0 || ltb n station
 
 -- 7: a call with bad station, kind, zero byte or read values. A read has a = b = 0
 unfoldable pub badCall : ℕ → List ℕ → Bool
@@ -40,7 +37,7 @@ firstTurn n turns = firstOf (badTurnAt n turns) (length turns)
 -- 3: n is 0 or over 32; 4: q over 1,024; 5: t over 40,960; 6: lengths disagree
 abbrev pub limitRows : ℕ → ℕ → ℕ → Bool → List Row
 limitRows n q t agree =
-    row 3 (eqb n 0 || ltb 32 n) 0 ∷ row 4 (ltb 1024 q) 0 ∷ row 5 (ltb 40960 t) 0 ∷ row 6 (not agree) 0 ∷ []
+    row 3 (eqb n 0 || ltb stationLimit n) 0 ∷ row 4 (ltb callLimit q) 0 ∷ row 5 (ltb turnLimit t) 0 ∷ row 6 (not agree) 0 ∷ []
 
 -- 7 and 8 hold where there is a first such call or turn, which is their K
 abbrev pub partRows : ℕ → List ℕ → List ℕ → List Row

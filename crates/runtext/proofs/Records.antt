@@ -12,7 +12,8 @@ use Rattle.octets.proofs.Spelled.{fits-in}
 use Rattle.rules.proofs.Facts.{or-none}
 use Rattle.runfile.specs.declared.CallRecord.{CallRecord}
 use Rattle.runfile.specs.Layout.{part, field, zeroByte, callRecord}
-use Rattle.runfile.specs.Reading.{badStation, badCall}
+use Rattle.rules.specs.Limits.{badStation}
+use Rattle.runfile.specs.Reading.{badCall}
 use Rattle.runfile.proofs.Trailers.{bytes-part, length-part}
 
 -- the numbers of a good call

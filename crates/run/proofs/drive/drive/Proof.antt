@@ -3,9 +3,8 @@ use mathlib.Core.Path.{_≡_, refl, _∙_, sym, ap}
 use Prim.Native.Nat.{_-_, _<_, _≤_}
 use native.Mathlib.Omega.{arith}
 use mathlib.Core.Bool.{cond}
-use lib.Dec.{eqb}
 use lib.ListN.{length, getD}
-use Rattle.method.specs.Record.{num}
+use Rattle.method.specs.Record.{atRest}
 use Rattle.bench.specs.Record.{stationAt}
 use Rattle.bench.proofs.Sounds.{within-at}
 use Rattle.run.specs.Calls.{offer, callFor}
@@ -66,7 +65,7 @@ offers : (c : tie.After-offered Inv-loop μ-loop)
     let l = round a .loop in
     let i = a .wide .result in
     let p = stationAt (l .w) i .place in
-    c .offered .result ≡ offer (entry (round a) .args .table .now) (cond (eqb (num p) 0) (callFor p (getD (l .head) i 0) (getD (l .latest) i 0)) 0)
+    c .offered .result ≡ offer (entry (round a) .args .table .now) (cond (atRest p) (callFor p (getD (l .head) i 0) (getD (l .latest) i 0)) 0)
 offers c =
     let a = turning (errand c) in
     c .offered .ensures ∙ ap (λ e. offer (entry (round a) .args .table .now) (cond (e .rests) (e .call) 0)) (errand c .errand .ensures)
