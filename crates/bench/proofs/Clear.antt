@@ -12,6 +12,7 @@ use Rattle.method.specs.declared.Place.{Place}
 use Rattle.method.specs.declared.Place.the-variants.{Rest, At11, At12, At13, At14, At15, At16, At18, At19, At20}
 use Rattle.method.specs.declared.Station.{Station}
 use Rattle.reach.specs.Step.{countLimit, versionLimit, wouldBegin, orRefused}
+use Rattle.reach.proofs.Rest.{known}
 use Rattle.bench.specs.declared.Bench.{Bench}
 use Rattle.bench.specs.declared.Turned.{Turned}
 use Rattle.method.specs.declared.Answer.the-variants.{Idle, Going, Ended, Refused}
@@ -77,12 +78,11 @@ clear w i kind a b e =
     let none = exactly (turnRefusals w i kind a b) refl .none .0 e in
     let station = or-none (eqb i 0) (ltb (w .n) i) (none 10) in
     let z = eqb-false i 0 (station .0) in
-    let offer = or-none (ltb 3 kind) ((eqb kind 0 || eqb kind 3) && (not (eqb a 0) || not (eqb b 0))) (none 11) in
     record {
       isSound = not-false (sound w) (none 9);
       low = omega arith;
       high = ltb-false (w .n) i (station .1);
-      known = ltb-false 3 kind (offer .0);
+      known = known kind a b (none 11);
       room = none 12;
       early = none 13;
     }

@@ -7,7 +7,7 @@ use Prim.Native.Nat.{ℕ, suc, _<_, _≤_, _+_, _%_}
 use native.Mathlib.Omega.{arith}
 use native.Mathlib.Decide.{decLt, ℕ-discrete}
 use borrow.Author.Needs.{needs}
-use borrow.Author.Tests.{le-ltb, ltb-false, eqb-true, eqb-false}
+use borrow.Author.Tests.{le-ltb, ltb-false, eqb-true, eqb-false, ne-eqb}
 use lib.Dec.{ltb, eqb}
 use lib.ListN.{getD, set, length}
 use lib.Seq.{set-out, getD-set-same, getD-set-other}
@@ -20,6 +20,7 @@ use Rattle.method.specs.declared.Place.{Place}
 use Rattle.method.specs.declared.Place.the-variants.{Rest, At11, At12, At13, At14, At15, At16, At18, At19, At20}
 use Rattle.method.specs.declared.Station.{Station}
 use Rattle.reach.specs.Step.{versionLimit, wouldBegin}
+use Rattle.reach.proofs.Rest.{set-or-swap}
 use Rattle.bench.specs.declared.Bench.{Bench}
 use Rattle.method.specs.declared.Answer.the-variants.{Idle, Going, Ended}
 use Rattle.method.specs.Record.{call, resting}
@@ -94,7 +95,7 @@ module _ (limit : ℕ) (w : Bench) (i : ℕ) (s : Sound limit w) (low : 1 ≤ i)
 
   -- the bench with a station of its own changed
   station-put : (x : Station) → Stands limit (w .n) (x .place) x → (j : ℕ) → j < 33 → StationKept limit (w .n) j (getD (set (w .stations) i x) j (resting 0))
-  station-put x k = set-each (StationKept limit (w .n)) (w .stations) i x (resting 0) (record { stands = k; above = not-above _ (w .n) i high }) (s .station)
+  station-put x k = set-each (StationKept limit (w .n)) (w .stations) i x (resting 0) (record { stands = k; above = not-above _ (w .n) i high; none = rw (ne-eqb i 0 (λ e. omega arith)) tt }) (s .station)
 
   a-put : (x : Halves) → x .first ≤ limit → (j : ℕ) → j < 33 → AllKept (aRules limit (w .n) j (getD (set (w .a) i x) j (halves 0 0)))
   a-put x h = set-each (λ j e. AllKept (aRules limit (w .n) j e)) (w .a) i x (halves 0 0) ((h, tt), (not-above _ (w .n) i high, tt)) (s .a)
@@ -206,7 +207,9 @@ module _ (limit : ℕ) (w : Bench) (i : ℕ) (s : Sound limit w) (low : 1 ≤ i)
   pub row-sound : (p : Place) (kind a b : ℕ) → kind ≤ 3 → Stands limit (w .n) p t → (wouldBegin p kind && eqb (t .c) limit) ≡ false
       → (wouldBegin p kind && ltb versionLimit (w .v .first)) ≡ false → Sound limit (row onBench p w i t kind a b .bench)
   unfolding row
-  row-sound Rest kind a b h k full late = row-rest kind a b h k (eqb kind 3) (eqb kind 0) refl refl full late
+  row-sound Rest kind a b h k full late =
+      let begins = set-or-swap kind h in
+      row-rest kind a b h k (eqb kind 3) (eqb kind 0) refl refl (rw begins at full) (rw begins at late)
   row-sound At11 kind a b h k full late = row-11 k
   row-sound At12 kind a b h k full late = row-12 k
   row-sound At13 kind a b h k full late = row-13 k

@@ -38,7 +38,7 @@ anyway true x = x
 anyway false x = tt
 
 fresh-station : (n i : ℕ) → StationKept countLimit n i (resting 0)
-fresh-station n i = record { stands = search needs; above = anyway (ltb n i) (search needs) }
+fresh-station n i = record { stands = search needs; above = anyway (ltb n i) (search needs); none = anyway (eqb i 0) (search needs) }
 
 blank-sound : (x n : ℕ) → 1 ≤ n → n ≤ 32 → Sound countLimit (blank x n)
 blank-sound x n low high =

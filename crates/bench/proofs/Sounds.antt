@@ -13,7 +13,7 @@ use Rattle.reach.specs.Step.{countLimit}
 use Rattle.reach.specs.Reach.{Ready, reaching}
 use Rattle.bench.specs.declared.Bench.{Bench}
 use Rattle.bench.specs.Record.{stationAt, aAt, rAt}
-use Rattle.bench.specs.Sound.{restsZero, ownTurns, inCall, roomAt11, unreadTo15, unreadAt16, agreedAt18, stationAbove, headRules, aRules, rRules, stationRules, entryKept, eachEntry, sound}
+use Rattle.bench.specs.Sound.{restsZero, ownTurns, inCall, roomAt11, unreadTo15, unreadAt16, agreedAt18, stationAbove, noStation, headRules, aRules, rRules, rulesOf, entryKept, eachEntry, sound}
 use Rattle.bench.proofs.Entries.{keptAt, each-holds, all-hold}
 
 abbrev pub AKept : ℕ → Bench → ℕ → Type 0
@@ -22,7 +22,7 @@ AKept limit w i = AllKept (aRules limit (w .n) i (aAt w i))
 abbrev pub RKept : ℕ → Bench → ℕ → Type 0
 RKept limit w i = AllKept (rRules limit (w .n) i (rAt w i))
 
--- the rules of a station that stands at place p, by name; `above` is that of the stations above n
+-- the rules of a station that stands at place p, by name; `above` is that of the stations above n, `none` that of record 0
 pub record Stands (limit n : ℕ) (p : Place) (t : Station) : Type 0 where
   pub count : t .c ≤ limit
   pub rest : Kept (restsZero p t)
@@ -36,16 +36,17 @@ pub record Stands (limit n : ℕ) (p : Place) (t : Station) : Type 0 where
 pub record StationKept (limit n i : ℕ) (t : Station) : Type 0 where
   pub stands : Stands limit n (t .place) t
   pub above : Kept (stationAbove n i (t .place) t)
+  pub none : Kept (noStation i (t .place) t)
 
-named : (limit n i : ℕ) (t : Station) → AllKept (stationRules limit n i (t .place) t) → StationKept limit n i t
+named : (limit n i : ℕ) (t : Station) → AllKept (rulesOf limit n i t) → StationKept limit n i t
 named limit n i t k =
-    let l = k .1 .1 .1 .1 in
+    let l = k .1 .1 .1 .1 .1 in
     record {
       stands =
           record {
             count = k .0 .0;
-            rest = k .1 .1 .0;
-            own = k .1 .1 .1 .0 .0;
+            rest = k .1 .1 .1 .0;
+            own = k .1 .1 .1 .1 .0 .0;
             call = l .0;
             room = l .1 .0;
             early = l .1 .1 .0;
@@ -53,12 +54,13 @@ named limit n i t k =
             agreed = l .1 .1 .1 .1 .0;
           };
       above = k .1 .0;
+      none = k .1 .1 .0;
     }
 
-listed : (limit n i : ℕ) (t : Station) → StationKept limit n i t → AllKept (stationRules limit n i (t .place) t)
+listed : (limit n i : ℕ) (t : Station) → StationKept limit n i t → AllKept (rulesOf limit n i t)
 listed limit n i t k =
     let s = k .stands in
-    ((s .count, tt), (k .above, (s .rest, ((s .own, tt), (s .call, (s .room, (s .early, (s .entry, (s .agreed, tt)))))))))
+    ((s .count, tt), (k .above, (k .none, (s .rest, ((s .own, tt), (s .call, (s .room, (s .early, (s .entry, (s .agreed, tt))))))))))
 
 pub record Sound (limit : ℕ) (w : Bench) : Type 0 where
   pub head : AllKept (headRules limit w)
@@ -74,7 +76,7 @@ facts w e =
     let at : (i : ℕ) → i < 33 → keptAt countLimit w i ≡ true = λ i g. each-holds countLimit w i 33 g (and-right h l e) in
     let a : ℕ → Bool = λ i. allKept (aRules countLimit (w .n) i (aAt w i)) in
     let r : ℕ → Bool = λ i. allKept (rRules countLimit (w .n) i (rAt w i)) in
-    let t : ℕ → Bool = λ i. allKept (stationRules countLimit (w .n) i (stationAt w i .place) (stationAt w i)) in
+    let t : ℕ → Bool = λ i. allKept (rulesOf countLimit (w .n) i (stationAt w i)) in
     record {
       head = all-keep (headRules countLimit w) (and-left h l e);
       a = λ i g. all-keep (aRules countLimit (w .n) i (aAt w i)) (and-left (a i) (r i && t i) (at i g));
@@ -82,7 +84,7 @@ facts w e =
       station =
           λ i g.
           named countLimit (w .n) i (stationAt w i)
-          (all-keep (stationRules countLimit (w .n) i (stationAt w i .place) (stationAt w i)) (and-right (r i) (t i) (and-right (a i) (r i && t i) (at i g))));
+          (all-keep (rulesOf countLimit (w .n) i (stationAt w i)) (and-right (r i) (t i) (and-right (a i) (r i && t i) (at i g))));
     }
 
 pub holds : (w : Bench) → Sound countLimit w → sound w ≡ true
@@ -93,7 +95,7 @@ holds w s =
     (λ i g.
     and-both (all-kept (aRules countLimit (w .n) i (aAt w i)) (s .a i g))
     (and-both (all-kept (rRules countLimit (w .n) i (rAt w i)) (s .r i g))
-    (all-kept (stationRules countLimit (w .n) i (stationAt w i .place) (stationAt w i)) (listed countLimit (w .n) i (stationAt w i) (s .station i g))))))
+    (all-kept (rulesOf countLimit (w .n) i (stationAt w i)) (listed countLimit (w .n) i (stationAt w i) (s .station i g))))))
 
 -- what a move needs of its station
 pub ready : (p : Place) (n : ℕ) (t : Station) → Stands countLimit n p t → Ready t

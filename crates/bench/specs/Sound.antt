@@ -53,8 +53,15 @@ zeroButCount t = same (t .own) 0 ∷ same (t .call .kind) 0 ∷ same (t .call .a
 abbrev pub entryAbove : ℕ → ℕ → Halves → Rule
 entryAbove n i e = given (ltb n i) (zeroHalves e)
 
+abbrev pub freshStation : Place → Station → List Test
+freshStation p t = same (t .c) 0 ∷ same (num p) 0 ∷ zeroButCount t
+
 abbrev pub stationAbove : ℕ → ℕ → Place → Station → Rule
-stationAbove n i p t = given (ltb n i) (same (t .c) 0 ∷ same (num p) 0 ∷ zeroButCount t)
+stationAbove n i p t = given (ltb n i) (freshStation p t)
+
+-- record 0 belongs to no station and is as fresh; entry 0 of A and R keeps the limits and nothing more
+abbrev pub noStation : ℕ → Place → Station → Rule
+noStation i p t = given (eqb i 0) (freshStation p t)
 
 -- resting stations hold zero in all but c
 abbrev pub restsZero : Place → Station → Rule
@@ -115,11 +122,14 @@ rRules limit n i r = rLimit limit r ∷ entryAbove n i r ∷ []
 
 abbrev pub stationRules : ℕ → ℕ → ℕ → Place → Station → List Rule
 stationRules limit n i p t =
-    stationCount limit t ∷ stationAbove n i p t ∷ restsZero p t ∷ always (ownTurns p (t .own) ∷ []) ∷ inCall limit n p t ∷ roomAt11 limit p t ∷ unreadTo15 p t
+    stationCount limit t ∷ stationAbove n i p t ∷ noStation i p t ∷ restsZero p t ∷ always (ownTurns p (t .own) ∷ []) ∷ inCall limit n p t ∷ roomAt11 limit p t ∷ unreadTo15 p t
     ∷ unreadAt16 p t ∷ agreedAt18 p t ∷ []
 
+abbrev pub rulesOf : ℕ → ℕ → ℕ → Station → List Rule
+rulesOf limit n i t = stationRules limit n i (t .place) t
+
 unfoldable pub entryKept : ℕ → ℕ → ℕ → Halves → Halves → Station → Bool
-entryKept limit n i a r t = allKept (aRules limit n i a) && (allKept (rRules limit n i r) && allKept (stationRules limit n i (t .place) t))
+entryKept limit n i a r t = allKept (aRules limit n i a) && (allKept (rRules limit n i r) && allKept (rulesOf limit n i t))
 
 -- entries and stations 0 to k - 1
 unfoldable pub eachEntry : ℕ → Bench → ℕ → Bool

@@ -1,30 +1,25 @@
 -- Document 01, "One turn, one register operation" and "Numbered refusals": a turn with its refusals 9 to 13, and a fresh bench. Assumes nothing.
-use mathlib.Core.Bool.{Bool, cond, not, _&&_, _||_}
+use mathlib.Core.Bool.{cond, not, _||_}
 use mathlib.Core.List.{List, [], _∷_}
 use Prim.Native.Nat.{ℕ}
 use lib.Dec.{ltb, eqb}
-use Rattle.method.specs.Table.{row}
+use Rattle.method.specs.Table.{rowAt}
 use Rattle.rules.specs.Limits.{stationLimit, badStation}
 use Rattle.rules.specs.Refusal.{Refusal, refusal, refusalOf}
-use Rattle.reach.specs.Step.{beginRefusals, orRefused}
+use Rattle.reach.specs.Step.{offerRefusals, orRefused}
 use Rattle.bench.specs.declared.Bench.{Bench}
 use Rattle.bench.specs.declared.Turned.{Turned}
 use Rattle.bench.specs.declared.Made.{Made}
 use Rattle.bench.specs.Record.{blank, stationAt, onBench}
 use Rattle.bench.specs.Sound.{sound}
 
--- 11: offered kind over 3, or read or none with a or b not 0
-abbrev pub badOffer : ℕ → ℕ → ℕ → Bool
-badOffer kind a b = ltb 3 kind || ((eqb kind 0 || eqb kind 3) && (not (eqb a 0) || not (eqb b 0)))
-
+-- 9: bench not sound. 10: station 0 or over n. Then what is refused of the offer, 11 to 13
 abbrev pub turnRefusals : Bench → ℕ → ℕ → ℕ → ℕ → List Refusal
 turnRefusals w i kind a b =
-    refusal 9 (not (sound w)) ∷ refusal 10 (badStation (w .n) i) ∷ refusal 11 (badOffer kind a b)
-    ∷ beginRefusals (w .v) (stationAt w i .place) (stationAt w i) kind
+    refusal 9 (not (sound w)) ∷ refusal 10 (badStation (w .n) i) ∷ offerRefusals (w .v) (stationAt w i .place) (stationAt w i) kind a b
 
 unfoldable pub turnOf : Bench → ℕ → ℕ → ℕ → ℕ → Turned
-turnOf w i kind a b =
-    orRefused onBench (refusalOf (turnRefusals w i kind a b)) w (row onBench (stationAt w i .place) w i (stationAt w i) kind a b)
+turnOf w i kind a b = orRefused onBench (refusalOf (turnRefusals w i kind a b)) w (rowAt onBench w i (stationAt w i) kind a b)
 
 -- a fresh bench of n stations; refusal 3 hands back a bench of all zeros
 abbrev pub freshRefusals : ℕ → List Refusal

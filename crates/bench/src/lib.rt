@@ -14,7 +14,7 @@ use reach::Reach;
 mod sound;
 mod turns;
 
-// Entry 0 of a and r belongs to no station; station 0 stays at rest.
+// Entry 0 of a and r belongs to no station, nor does record 0, which stays as fresh.
 pub struct Bench {
     pub n: u32,
     pub v: Halves,

@@ -1,7 +1,7 @@
 // The test of a sound bench, sentence by sentence. It assumes nothing of the bench.
 ghost use mathlib.Core.Path.{_≡_};
 ghost use Rattle.rules.specs.Test.{passes, pass, allKept};
-ghost use Rattle.bench.specs.Sound.{unread, zeroButCount, ownTurns, called, agreed, zeroHalves, aRules, rRules, stationRules, entryKept, eachEntry, headRules, sound};
+ghost use Rattle.bench.specs.Sound.{unread, zeroButCount, ownTurns, called, agreed, zeroHalves, aRules, rRules, rulesOf, entryKept, eachEntry, headRules, sound};
 use crate::Bench;
 use card::Halves;
 use method::Place;
@@ -65,7 +65,7 @@ fn agreed(t: Station) -> bool
 }
 
 fn station_ok(t: Station, limit: u32, n: u32, i: u32) -> bool
-    ensures { λ r. ⌜ r ≡ allKept (stationRules limit n i (t .place) t) ⌝ }
+    ensures { λ r. ⌜ r ≡ allKept (rulesOf limit n i t) ⌝ }
 {
     let c = t.c;
     let entry = t.entry;
@@ -77,15 +77,17 @@ fn station_ok(t: Station, limit: u32, n: u32, i: u32) -> bool
     let unread = unread(t);
     let unread_entry = zero(entry);
     let agreed = agreed(t);
+    let fresh = (c == 0) & ((k == 0) & zero_but_count);
     (c <= limit)
-        & ((!(n < i) | ((c == 0) & ((k == 0) & zero_but_count)))
-            & ((!(k == 0) | zero_but_count)
-                & (own_turns
-                    & ((!!(k == 0) | called)
-                        & ((!(k == 11) | (c < limit))
-                            & ((!((11 <= k) & (k <= 15)) | unread)
-                                & ((!(k == 16) | unread_entry)
-                                    & (!((k == 18) | (k == 19)) | agreed))))))))
+        & ((!(n < i) | fresh)
+            & ((!(i == 0) | fresh)
+                & ((!(k == 0) | zero_but_count)
+                    & (own_turns
+                        & ((!!(k == 0) | called)
+                            & ((!(k == 11) | (c < limit))
+                                & ((!((11 <= k) & (k <= 15)) | unread)
+                                    & ((!(k == 16) | unread_entry)
+                                        & (!((k == 18) | (k == 19)) | agreed)))))))))
 }
 
 fn a_ok(limit: u32, n: u32, i: u32, a: Halves) -> bool

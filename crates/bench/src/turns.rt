@@ -1,28 +1,22 @@
-// One turn of the bench: its refusals, and then the station's move on what the turn reaches.
+// One turn of the bench: its refusals 9 and 10, and then the station's move on what the turn reaches, with 11 to 13.
 ghost use mathlib.Core.Path.{_≡_};
 ghost use mathlib.Core.Bool.{true};
 ghost use Prim.Native.Nat.{_<_};
 ghost use Rattle.bench.specs.Record.{stationAt, onBench};
 ghost use Rattle.bench.specs.Sound.{sound};
-ghost use Rattle.bench.specs.Turn.{badOffer, turnOf};
-ghost use Rattle.reach.specs.Step.{stepOf};
+ghost use Rattle.bench.specs.Turn.{turnOf};
+ghost use Rattle.reach.specs.Step.{stepAt};
 use crate::Bench;
 use crate::Turned;
 use method::Answer;
 use reach::Reach;
 use reach::reaches;
 
-fn bad_offer(kind: u32, a: u32, b: u32) -> bool
-    ensures { λ r. ⌜ r ≡ badOffer kind a b ⌝ }
-{
-    (3 < kind) | (((kind == 0) | (kind == 3)) & ((a != 0) | (b != 0)))
-}
-
 impl Bench {
-    // A turn of a good station with a good offer, on a sound bench.
+    // A turn of a good station on a sound bench. The move refuses what the turn refuses of the offer.
     pub(crate) fn stepped(mut self, i: u32, kind: u32, a: u32, b: u32) -> Turned
         requires { ⌜ (i < 33) × (sound self ≡ true) ⌝ }
-        ensures { λ r. ⌜ r ≡ stepOf onBench (stationAt self i .place) self i (stationAt self i) kind a b ⌝ }
+        ensures { λ r. ⌜ r ≡ stepAt onBench self i (stationAt self i) kind a b ⌝ }
     {
         let at = i as usize;
         let t = self.stations[at];
@@ -72,12 +66,6 @@ impl Bench {
         if (station == 0) | (n < station) {
             return Turned {
                 answer: Answer::Refused(10),
-                bench: self,
-            };
-        }
-        if bad_offer(kind, a, b) {
-            return Turned {
-                answer: Answer::Refused(11),
                 bench: self,
             };
         }

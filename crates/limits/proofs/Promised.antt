@@ -11,11 +11,11 @@ use Rattle.rules.specs.Refusal.{refusalOf}
 use Rattle.rules.proofs.Facts.{either-way}
 use Rattle.octets.specs.Bytes.{AllBytes}
 use Rattle.method.specs.Record.{told}
-use Rattle.reach.specs.Step.{countLimit, versionLimit, wouldBegin}
+use Rattle.reach.specs.Step.{countLimit, versionLimit, badOffer, wouldBegin}
 use Rattle.bench.specs.declared.Bench.{Bench}
 use Rattle.bench.specs.Record.{stationAt}
 use Rattle.bench.specs.Sound.{sound}
-use Rattle.bench.specs.Turn.{badOffer, turnRefusals}
+use Rattle.bench.specs.Turn.{turnRefusals}
 use Rattle.bench.specs.Promise.{Turn, turnBy, RefusesExactly}
 use Rattle.bench.proofs.Clear.{refuses-exactly}
 use Rattle.runfile.specs.Reading.{readOf, tableOf, turnsOf}

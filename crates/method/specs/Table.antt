@@ -122,3 +122,7 @@ module _ {W Out : Type 0} (on : Access W Out) where
   row At18 w i t kind a b = row18 w i t
   row At19 w i t kind a b = row19 w i t
   row At20 w i t kind a b = row20 w i t
+
+  -- the operation of the place where the station stands
+  abbrev pub rowAt : W → ℕ → Station → ℕ → ℕ → ℕ → Out
+  rowAt w i t kind a b = row (t .place) w i t kind a b

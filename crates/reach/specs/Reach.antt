@@ -1,7 +1,8 @@
 -- What one turn can reach, and the step table on it: the same rows, where only that much is carried about. Assumes nothing.
-use mathlib.Core.Bool.{Bool, cond}
+use mathlib.Core.Bool.{Bool, not}
 use mathlib.Core.List.{List, [], _∷_}
 use Prim.Native.Nat.{ℕ, suc}
+use Rattle.rules.specs.Refusal.{Refusal, refusal, refusalOf}
 use Rattle.rules.specs.Test.{Test, atMost, pass, Facts}
 use Rattle.card.specs.declared.Halves.{Halves}
 use Rattle.card.specs.declared.Claim.{Claim}
@@ -9,11 +10,10 @@ use Rattle.method.specs.declared.Place.{Place}
 use Rattle.method.specs.declared.Place.the-variants.{Rest, At11, At12, At13, At14, At15, At16, At18, At19, At20}
 use Rattle.method.specs.declared.Station.{Station}
 use Rattle.method.specs.declared.Answer.{Answer}
-use Rattle.method.specs.declared.Answer.the-variants.{Refused}
-use Rattle.method.specs.Table.{Access}
+use Rattle.method.specs.Table.{Access, rowAt}
 use Rattle.reach.specs.declared.Reach.{Reach}
 use Rattle.reach.specs.declared.Moved.{Moved}
-use Rattle.reach.specs.Step.{countLimit, versionLimit, stepOf}
+use Rattle.reach.specs.Step.{countLimit, versionLimit, offerRefusals, orRefused}
 
 -- what a move asks of its station, and a sound bench gives: its numbers can grow
 abbrev pub readyRules : Station → List Test
@@ -60,8 +60,10 @@ onReach =
       give = moved;
     }
 
--- a station's move: the table's row, or 12 or 13; refused 9, and nothing moved, where the station is not ready
+-- 9: the station is not ready, so no sound bench has it. Then what is refused of the offer
+abbrev pub moveRefusals : Reach → ℕ → ℕ → ℕ → List Refusal
+moveRefusals g kind a b = refusal 9 (not (ready (g .station))) ∷ offerRefusals (g .v) (g .station .place) (g .station) kind a b
+
+-- a station's move: refused, and nothing moved, or the table's row
 unfoldable pub moveOf : Reach → ℕ → ℕ → ℕ → Moved
-moveOf g kind a b =
-    let t = g .station in
-    cond (ready t) (stepOf onReach (t .place) g (g .id) t kind a b) (moved (Refused 9) g)
+moveOf g kind a b = orRefused onReach (refusalOf (moveRefusals g kind a b)) g (rowAt onReach g (g .id) (g .station) kind a b)

@@ -1,4 +1,4 @@
--- Document 01, "One turn, one register operation": a turn of a good station with a good offer on a sound bench, which is the table's row or refused 12 or 13. Assumes nothing.
+-- Document 01, "One turn, one register operation" and "Numbered refusals": what is refused of an offer, 11 to 13, and a turn of a good station on a sound bench, which is refused so or is the table's row. Assumes nothing.
 use mathlib.Core.Bool.{Bool, cond, not, _&&_, _||_}
 use mathlib.Core.List.{List, [], _∷_}
 use Prim.Native.Nat.{ℕ}
@@ -18,20 +18,27 @@ countLimit = Word.countLimit Word.revisionA
 abbrev pub versionLimit : ℕ
 versionLimit = 4294967292
 
--- a set or swap would begin: a station at rest, and an offer that is neither a read nor none
-abbrev pub wouldBegin : Place → ℕ → Bool
-wouldBegin p kind = atRest p && not (eqb kind 0 || eqb kind 3)
+-- 11: offered kind over 3, or read or none with a or b not 0
+abbrev pub badOffer : ℕ → ℕ → ℕ → Bool
+badOffer kind a b = ltb 3 kind || ((eqb kind 0 || eqb kind 3) && (not (eqb a 0) || not (eqb b 0)))
 
--- 12 and 13: it would begin with c = 65,535, or with V.seq over 4,294,967,292
-abbrev pub beginRefusals : Halves → Place → Station → ℕ → List Refusal
-beginRefusals v p t kind =
-    refusal 12 (wouldBegin p kind && eqb (t .c) countLimit) ∷ refusal 13 (wouldBegin p kind && ltb versionLimit (v .first)) ∷ []
+-- a set or swap would begin: one is offered to a station at rest
+abbrev pub wouldBegin : Place → ℕ → Bool
+wouldBegin p kind = atRest p && (eqb kind 1 || eqb kind 2)
+
+-- 11, a station in a call too; 12 and 13: a set or swap would begin with c = 65,535, or with V.seq over 4,294,967,292
+abbrev pub offerRefusals : Halves → Place → Station → ℕ → ℕ → ℕ → List Refusal
+offerRefusals v p t kind a b =
+    refusal 11 (badOffer kind a b) ∷ refusal 12 (wouldBegin p kind && eqb (t .c) countLimit) ∷ refusal 13 (wouldBegin p kind && ltb versionLimit (v .first)) ∷ []
 
 -- a refused turn hands back the bench given
 module _ {W Out : Type 0} (on : Access W Out) where
   abbrev pub orRefused : ℕ → W → Out → Out
   orRefused number w x = cond (eqb number 0) x (on .give (Refused number) w)
 
-  -- a turn of a good station with a good offer, on a sound bench
+  -- a turn of a good station on a sound bench, by the place where it stands
   unfoldable pub stepOf : Place → W → ℕ → Station → ℕ → ℕ → ℕ → Out
-  stepOf p w i t kind a b = orRefused (refusalOf (beginRefusals (on .v w i) p t kind)) w (row on p w i t kind a b)
+  stepOf p w i t kind a b = orRefused (refusalOf (offerRefusals (on .v w i) p t kind a b)) w (row on p w i t kind a b)
+
+  abbrev pub stepAt : W → ℕ → Station → ℕ → ℕ → ℕ → Out
+  stepAt w i t kind a b = stepOf (t .place) w i t kind a b

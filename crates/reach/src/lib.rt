@@ -1,4 +1,4 @@
-// What one turn can reach, and a station's move on it: the table's operation of its place, with the refusals 12 and 13.
+// What one turn can reach, and a station's move on it: the table's operation of its place, with the refusals 11 to 13.
 // Its module: moves.
 use card::Claim;
 use card::Halves;

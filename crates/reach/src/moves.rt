@@ -1,9 +1,10 @@
 // One station's operation, on what one turn can reach. Small values are moved here, and not the bench, so that a turn costs little.
 // The move of a place assumes that its station's numbers can grow without wrapping (`Ready`); `Reach::moved` tests that.
 ghost use mathlib.Core.Path.{_≡_};
+ghost use mathlib.Core.Bool.{false};
 ghost use Rattle.method.specs.Record.{resting};
 ghost use Rattle.method.specs.Table.{handed, begun, sees, after16, row5, row11, row12, row13, row14, row15, row16, row18, row19, row20};
-ghost use Rattle.reach.specs.Step.{stepOf};
+ghost use Rattle.reach.specs.Step.{badOffer, stepOf, stepAt};
 ghost use Rattle.reach.specs.Reach.{Ready, ready, reaching, onReach, moveOf};
 ghost use Rattle.method.specs.declared.Place.the-variants.{Rest};
 use crate::Moved;
@@ -57,6 +58,12 @@ fn ready(t: Station) -> bool
     ensures { λ r. ⌜ r ≡ ready t ⌝ }
 {
     (t.own < 10) & ((t.c <= Reach::COUNT) & (t.s <= Reach::VERSION))
+}
+
+fn bad_offer(kind: u32, a: u32, b: u32) -> bool
+    ensures { λ r. ⌜ r ≡ badOffer kind a b ⌝ }
+{
+    (3 < kind) | (((kind == 0) | (kind == 3)) & ((a != 0) | (b != 0)))
 }
 
 // A station with the count c that has read the version s at place 5 and goes on.
@@ -164,7 +171,8 @@ impl Reach {
     }
 
     // A station at rest begins the offered call, or is refused 12 or 13.
-    fn move_rest(self, kind: u32, a: u32, b: u32) -> Moved
+    fn move_rest(mut self, kind: u32, a: u32, b: u32) -> Moved
+        requires { ⌜ badOffer kind a b ≡ false ⌝ }
         ensures { λ r. ⌜ r ≡ stepOf onReach Rest self (self .id) (self .station) kind a b ⌝ }
     {
         let result = self.v.second;
@@ -367,9 +375,9 @@ impl Reach {
     }
 
     // The operation of the place where the station stands.
-    fn move_at(self, kind: u32, a: u32, b: u32) -> Moved
-        requires { ⌜ Ready (self .station) ⌝ }
-        ensures { λ r. ⌜ r ≡ stepOf onReach (self .station .place) self (self .id) (self .station) kind a b ⌝ }
+    fn move_at(mut self, kind: u32, a: u32, b: u32) -> Moved
+        requires { ⌜ Ready (self .station) × (badOffer kind a b ≡ false) ⌝ }
+        ensures { λ r. ⌜ r ≡ stepAt onReach self (self .id) (self .station) kind a b ⌝ }
     {
         let t = self.station;
         let place = t.place;
@@ -387,14 +395,20 @@ impl Reach {
         }
     }
 
-    // One station's move. Refused 9, and nothing moved, where the station is not one of a sound bench by its numbers.
-    pub fn moved(self, kind: u32, a: u32, b: u32) -> Moved
+    // One station's move. Refused 9, and nothing moved, where the station is not one of a sound bench by its numbers; then 11 to 13 as a turn is.
+    pub fn moved(mut self, kind: u32, a: u32, b: u32) -> Moved
         ensures { λ r. ⌜ r ≡ moveOf self kind a b ⌝ }
     {
         let t = self.station;
         if !ready(t) {
             return Moved {
                 answer: Answer::Refused(9),
+                reach: self,
+            };
+        }
+        if bad_offer(kind, a, b) {
+            return Moved {
+                answer: Answer::Refused(11),
                 reach: self,
             };
         }

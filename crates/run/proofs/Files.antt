@@ -9,7 +9,7 @@ use lib.Dec.{eqb, ltb}
 use lib.ListN.{length, getD}
 use Rattle.rules.proofs.Facts.{either-way, or-none}
 use Rattle.rules.proofs.Rows.{Clear}
-use Rattle.bench.specs.Turn.{badOffer}
+use Rattle.reach.specs.Step.{badOffer}
 use Rattle.runfile.specs.declared.CallRecord.{CallRecord}
 use Rattle.runfile.specs.Layout.{part, field, zeroByte, records, noCall, callRecord, callBytes, callOf}
 use Rattle.rules.specs.Limits.{badStation}

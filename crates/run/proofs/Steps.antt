@@ -18,14 +18,14 @@ use Rattle.method.specs.Record.{num, atRest}
 use Rattle.method.specs.Table.{row}
 use Rattle.method.specs.Effect.{oneWord, raises, loses, losers, points}
 use Rattle.reach.specs.declared.Moved.{Moved}
-use Rattle.reach.specs.Step.{stepOf}
+use Rattle.reach.specs.Step.{badOffer, stepOf}
 use Rattle.reach.specs.Reach.{reaching, moveOf}
 use Rattle.bench.specs.declared.Bench.{Bench}
 use Rattle.bench.specs.Record.{stationAt, onBench}
 use Rattle.bench.specs.Record.{turned as benchTurned}
 use Rattle.bench.specs.Sound.{sound}
 use Rattle.rules.specs.Limits.{badStation}
-use Rattle.bench.specs.Turn.{badOffer, turnOf}
+use Rattle.bench.specs.Turn.{turnOf}
 use Rattle.bench.specs.Promise.{turnBy}
 use Rattle.bench.proofs.Sounds.{ready-at}
 use Rattle.bench.proofs.Bridge.{taken, putBack, step-law}

@@ -10,7 +10,7 @@ use Rattle.runfile.specs.Reading.{readOf, tableOf, turnsOf}
 use Rattle.bench.specs.declared.Bench.{Bench}
 use Rattle.bench.specs.Record.{stationAt}
 use Rattle.bench.specs.Sound.{sound}
-use Rattle.bench.specs.Turn.{badOffer}
+use Rattle.reach.specs.Step.{badOffer}
 use Rattle.run.specs.declared.Tally.{Tally}
 use Rattle.run.specs.declared.Drove.{Drove}
 use Rattle.run.specs.Calls.{offer, waits, Linked}

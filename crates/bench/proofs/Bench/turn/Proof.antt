@@ -31,13 +31,5 @@ turn-spec =
     (λ c κs. search needs)
     (λ c. simp (sym (c .before .sound .ensures) ∙ not-true _ (c .if1 .taken)))
     (λ c. simp (is-sound (c .before), c .if2 .taken))
-    (λ c κs. search needs)
-    (λ c. simp (is-sound (c .before .before .before), c .before .before .if2 .left, sym (c .before .bad-offer .ensures) ∙ c .if3 .taken))
-    (λ c κs. (no-more (c .before .before), is-sound (c .before .before .before)))
-    (λ c.
-    simp (
-      is-sound (c .before .before .before .before),
-      c .before .before .before .if2 .left,
-      sym (c .before .before .bad-offer .ensures) ∙ c .before .if3 .left,
-      c .stepped .ensures,
-    )))
+    (λ c κs. (no-more c, is-sound (c .before)))
+    (λ c. simp (is-sound (c .before .before), c .before .if2 .left, c .stepped .ensures)))

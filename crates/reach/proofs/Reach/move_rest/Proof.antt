@@ -8,11 +8,13 @@ pub move-rest-spec : {M : Type 1} → statement M
 move-rest-spec =
     tie.close
     (tie.spec
-    (λ c. rw rest-law (simp (eq-eqb _ _ (c .if1 .taken))))
-    (λ c. rw rest-law (simp (ne-eqb _ _ (c .before .if1 .left), eq-eqb _ _ (c .if2 .taken))))
-    (λ c. rw rest-law (simp (ne-eqb _ _ (c .before .before .if1 .left), ne-eqb _ _ (c .before .if2 .left), eq-eqb _ _ (c .if3 .taken))))
+    (λ c. rw (rest-law, c .before .pre) (simp (eq-eqb _ _ (c .if1 .taken))))
+    (λ c. rw (rest-law, c .before .before .pre) (simp (ne-eqb _ _ (c .before .if1 .left), eq-eqb _ _ (c .if2 .taken))))
     (λ c.
-    rw rest-law
+    rw (rest-law, c .before .before .before .pre)
+    (simp (ne-eqb _ _ (c .before .before .if1 .left), ne-eqb _ _ (c .before .if2 .left), eq-eqb _ _ (c .if3 .taken))))
+    (λ c.
+    rw (rest-law, c .before .before .before .before .pre)
     (simp (
       ne-eqb _ _ (c .before .before .before .if1 .left),
       ne-eqb _ _ (c .before .before .if2 .left),
@@ -21,7 +23,7 @@ move-rest-spec =
     )))
     (λ c κs. search needs)
     (λ c.
-    rw rest-law
+    rw (rest-law, c .before .before .before .before .before .pre)
     (simp (
       ne-eqb _ _ (c .before .before .before .before .if1 .left),
       ne-eqb _ _ (c .before .before .before .if2 .left),
