@@ -16,8 +16,8 @@ use Rattle.bench.specs.declared.Bench.{Bench}
 use Rattle.bench.specs.Record.{stationAt}
 use Rattle.bench.specs.Sound.{sound}
 use Rattle.bench.specs.Turn.{turnRefusals}
-use Rattle.bench.specs.Promise.{Turn, turnBy, RefusesExactly}
-use Rattle.bench.proofs.Clear.{refuses-exactly}
+use Rattle.bench.specs.Promise.{Turn, turnBy}
+use Rattle.bench.proofs.Clear.{none-told}
 use Rattle.runfile.specs.Reading.{readOf, tableOf, turnsOf}
 use Rattle.runfile.proofs.Trailers.{bytes-part}
 use Rattle.run.specs.Calls.{onOffer}
@@ -32,13 +32,12 @@ use Rattle.limits.proofs.Files.{x-small}
 -- a good turn is refused neither for its station nor for its offer, and a run is too short for 12 and 13
 answered : (w : Bench) (u : Turn) → sound w ≡ true → 1 ≤ u .station → u .station ≤ w .n → badOffer (u .kind) (u .a) (u .b) ≡ false
     → stationAt w (u .station) .c < countLimit → w .v .first ≤ versionLimit → told (turnBy w u .answer) .refusal ≡ 0
-unfolding RefusesExactly
 answered w u s low high offer c v =
     let p = stationAt w (u .station) .place in
     let none : refusalOf (turnRefusals w (u .station) (u .kind) (u .a) (u .b)) ≡ 0 =
     rw (s, ne-eqb (u .station) 0 (λ e. omega arith), le-ltb (w .n) (u .station) high, offer, ne-eqb (stationAt w (u .station) .c) countLimit (λ e. omega arith), le-ltb versionLimit (w .v .first) v)
     (either-way (wouldBegin p (u .kind)) (λ e. rw e) (λ e. rw e)) in
-    refuses-exactly w u .number ∙ none
+    none-told w u none
 
 module _ (file : List ℕ) (bytes : AllBytes file) (well : readOf file .refused ≡ 0) where
   kept : (turns : List ℕ) → ((j : ℕ) → j < length turns → getD turns j 0 ≤ readOf file .n)

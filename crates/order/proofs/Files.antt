@@ -10,12 +10,13 @@ use lib.Dec.{eqb}
 use lib.ListN.{length, getD, set}
 use Rattle.rules.proofs.Facts.{and-left, and-right}
 use Rattle.method.specs.declared.Answer.{Answer}
-use Rattle.method.specs.Record.{atRest, call}
+use Rattle.method.specs.Record.{atRest, call, told}
 use Rattle.method.specs.Events.{operates}
 use Rattle.bench.specs.declared.Bench.{Bench}
 use Rattle.bench.specs.Record.{blank, stationAt}
 use Rattle.bench.specs.Turn.{freshOf}
-use Rattle.bench.specs.Promise.{Turn, turnBy, after, counted}
+use Rattle.bench.specs.Promise.{Turn, turnBy, after}
+use Rattle.bench.proofs.Own.{counted}
 use Rattle.bench.proofs.Sounds.{facts}
 use Rattle.runfile.specs.Layout.{records, callOf}
 use Rattle.runfile.specs.Reading.{readOf, tableOf, turnsOf}
@@ -95,7 +96,7 @@ module _ {x n : ℕ} {table : List ℕ} {s : Run} {g : Log} (h : Filed x n table
             (λ q.
             counts (h .held) u i ∙ ap (counted i d u) q ∙ rw (eq-eqb i i refl) (ap (λ k. k + 1) (sym (turn-had (h .held) e u (free (ap operates q))))))
             (λ result took q.
-            own-turn (h .held) u .ended result took q .0 ∙ ap (λ k. k + 1) (sym (turn-had (h .held) e u (free (ap operates q)))));
+            sym (ap (λ y. told y .own) q) ∙ own-turn (h .held) u .ended (ap (λ y. told y .case) q) .0 ∙ ap (λ k. k + 1) (sym (turn-had (h .held) e u (free (ap operates q)))));
         plan =
             recast
             (noted-upcoming table w (s .turns + 1) i (callFor (stationAt w i .place) e (getD (s .book .latest) i 0)) (stationAt (turnBy w u .bench) i .own) y (s .book)

@@ -11,7 +11,7 @@ use lib.ListN.{length, List·getD-eq-default}
 use Rattle.method.specs.declared.Answer.{Answer}
 use Rattle.method.specs.declared.Answer.the-variants.{Idle, Going, Ended, Refused}
 use Rattle.method.specs.declared.Station.{Station}
-use Rattle.method.specs.Record.{num, atRest, call, resting}
+use Rattle.method.specs.Record.{num, atRest, call, resting, told}
 use Rattle.method.specs.Effect.{points}
 use Rattle.method.specs.World.{upd}
 use Rattle.method.specs.Watch.{Free, Point, End, Watcher, watching, watched, Good}
@@ -22,11 +22,11 @@ use Rattle.bench.specs.declared.Bench.{Bench}
 use Rattle.bench.specs.Record.{blank, stationAt}
 use Rattle.bench.specs.Sound.{sound}
 use Rattle.bench.specs.Points.{pointsIn}
-use Rattle.bench.specs.Promise.{Turn, turnBy, after, counted, operations, OwnTurns, OwnTurnsCount}
+use Rattle.bench.specs.Promise.{Turn, turnBy, after, operations, OwnTurns, OwnTurnsCount}
 use Rattle.bench.proofs.Sounds.{facts}
 use Rattle.bench.proofs.Promised.{turn-sound, kept-sound}
 use Rattle.run.proofs.Start.{fresh-bench}
-use Rattle.bench.proofs.Own.{own-turns}
+use Rattle.bench.proofs.Own.{counted, done-counted, own-turns}
 use Rattle.order.specs.Log.{Log, noCalls, begins, acts, logged}
 use Rattle.order.specs.Accepted.{times, Pairs, served}
 use Rattle.order.proofs.Bridge.{only, view, Shape, eventsIn, follows, begins-fresh}
@@ -120,7 +120,7 @@ module _ {x now : ℕ} {w : Bench} {g : Log} (h : Held x now w g) (u : Turn) whe
   -- own turns in the bench are counted
   pub counts : (j : ℕ) → stationAt (turnBy w u .bench) j .own ≡ counted j (stationAt w j .own) u (turnBy w u .answer)
   unfolding after operations OwnTurnsCount
-  counts j = own-turns w (h .shape .1 .1 .1) (h .isSound) (u ∷ []) (record { station = j; kind = 0; a = 0; b = 0 }) .counts
+  counts j = own-turns w (h .shape .1 .1 .1) (h .isSound) (u ∷ []) (record { station = j; kind = 0; a = 0; b = 0 }) .counts ∙ done-counted j (stationAt w j .own) w u
 
   pub own-turn : OwnTurns w [] u (stationAt w (u .station) .own)
   unfolding after operations OwnTurnsCount
@@ -146,8 +146,8 @@ turn-held {x} {now} {w} {g} h c u free =
       inv = subst⁻¹ (λ (n : ℕ). Inv n (view (turnBy w u .bench)) (watched (h .m) (eventsIn w u y))) (f .shape .0) (f .inv);
       kept = recount (logged-keeps (omega arith) k w c u (r .0) (r .1) y free (f .good)) (counts h u);
       owns =
-          logged-owns (omega arith) k w c u (r .0) (r .1) y free (h .owns) (own .going)
-          (λ result took e. let q = own .ended result took e in subst⁻¹ Took (sym (q .0)) (q .1));
+          logged-owns (omega arith) k w c u (r .0) (r .1) y free (h .owns) (λ e. own .going (ap (λ y. told y .case) e))
+          (λ result took e. let q = own .ended (ap (λ y. told y .case) e) in subst⁻¹ Took (sym (q .0)) (q .1));
     }
 
 -- what the call of an operation has had before it is what its station has

@@ -1,4 +1,5 @@
 -- Document 01, "Registers", the picture: the registers as 64-bit words, each little-endian, and its refusals 9 and 14. Assumes nothing.
+use mathlib.Core.Path.{_≡_}
 use mathlib.Core.Bool.{cond, not}
 use mathlib.Core.List.{List, [], _∷_, _++_}
 use Prim.Native.Nat.{ℕ, zero, suc, _+_, _*_}
@@ -43,3 +44,8 @@ drawingOf w room =
 unfoldable pub drawnOn : Bench → List ℕ → List ℕ
 drawnOn w out =
     cond (eqb (refusalOf (pictureRefusals w (length out))) 0) (inBytes (registers w) ++ drop (pictureSize w) out) out
+
+-- the contract of `picture`: its answer, and the lent buffer afterwards
+pub record DrawnTo (w : Bench) (out : List ℕ) (answer : Drawing) (after : List ℕ) : Type 0 where
+  pub answered : answer ≡ drawingOf w (length out)
+  pub left : after ≡ drawnOn w out

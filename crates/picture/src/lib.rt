@@ -4,7 +4,7 @@ ghost use Prim.Native.Nat.{_+_, _*_, _≤_};
 ghost use lib.ListN.{length};
 ghost use lib.Seq.{sets};
 ghost use Rattle.octets.specs.Bytes.{bytes};
-ghost use Rattle.picture.specs.Picture.{entryWords, registers, inBytes, drawingOf, drawnOn};
+ghost use Rattle.picture.specs.Picture.{entryWords, registers, inBytes, DrawnTo};
 use bench::Bench;
 use card::Halves;
 
@@ -55,8 +55,7 @@ fn put_registers(out: &mut [u8], bench: Bench)
 
 // Draws V, P, A[1..n] and R[1..n]; refused, no byte changes.
 pub fn picture(bench: Bench, out: &mut [u8]) -> Drawing
-    ensures { λ r. ⌜ r ≡ drawingOf bench (length (now (out .entry))) ⌝ }
-    ensures { λ r. ⌜ now (out .exit) ≡ drawnOn bench (now (out .entry)) ⌝ }
+    ensures { λ r. ⌜ DrawnTo bench (now (out .entry)) r (now (out .exit)) ⌝ }
 {
     if !bench.sound() {
         return Drawing { refused: 9, len: 0 };

@@ -1,2 +1,4 @@
 pub mod Unique
 pub mod Runs
+pub mod Refused
+pub mod Facts

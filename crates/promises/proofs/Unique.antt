@@ -1,15 +1,15 @@
--- A contract that is an equation allows one result; one with a lent buffer allows one result and one buffer. Assumes nothing.
+-- A contract with a lent buffer, or with lent rows, allows one result and one buffer or one set of rows. Assumes nothing.
 use mathlib.Core.Path.{_≡_, _∙_, sym, ap}
 use mathlib.Core.List.{List}
 use Prim.Native.Nat.{ℕ}
+use Rattle.bench.specs.declared.Bench.{Bench}
 use Rattle.run.specs.Trace.{lentRow, TracedTo}
+use Rattle.picture.specs.declared.Drawing.{Drawing}
+use Rattle.picture.specs.Picture.{DrawnTo}
 use Rattle.promises.specs.Unique.{Left, LeftRows, Unique, OneResult}
 
-by-equation : {X : Type 0} (d : X) → Unique X (λ r. r ≡ d)
-by-equation d x y p q = p ∙ sym q
-
-by-equations : {X : Type 0} (d : X) (l : List ℕ) → Unique (Left X) (λ r. (r .result ≡ d) × (r .out ≡ l))
-by-equations d l x y p q i = record { result = (p .0 ∙ sym (q .0)) i; out = (p .1 ∙ sym (q .1)) i }
+by-buffer : (w : Bench) (out : List ℕ) → Unique (Left Drawing) (λ r. DrawnTo w out (r .result) (r .out))
+by-buffer w out x y p q = λ i. record { result = (p .answered ∙ sym (q .answered)) i; out = (p .left ∙ sym (q .left)) i }
 
 by-rows : (file own told point list : List ℕ) → Unique LeftRows (λ r. TracedTo file own told point list (r .trace) (r .own) (r .told) (r .point) (r .list))
 by-rows file own told point list x y p q =
@@ -24,26 +24,4 @@ by-rows file own told point list x y p q =
     }
 
 pub one-result : OneResult
-one-result =
-    record {
-      store = λ out x. by-equation _;
-      spell = λ part. by-equation _;
-      read = λ file. by-equation _;
-      table = λ file. by-equation _;
-      turns = λ file. by-equation _;
-      callAt = λ table k. by-equation _;
-      halvesMaxWrite = λ h f g. by-equation _;
-      halvesHalfMax = λ h f. by-equation _;
-      halvesWord = λ h. by-equation _;
-      claimMaxWrite = λ p f i c. by-equation _;
-      claimHalfMax = λ p f. by-equation _;
-      claimWord = λ p. by-equation _;
-      number = λ p. by-equation _;
-      reaches = λ t i. by-equation _;
-      moved = λ g kind a b. by-equation _;
-      fresh = λ x n. by-equation _;
-      sound = λ w. by-equation _;
-      turn = λ w i kind a b. by-equation _;
-      picture = λ w out. by-equations _ _;
-      traced = by-rows;
-    }
+one-result = record { picture = by-buffer; traced = by-rows }

@@ -7,7 +7,7 @@ use native.Mathlib.Omega.{arith}
 use borrow.Author.Tests.{eqb-true, eqb-false, eq-eqb, ne-eqb, not-true}
 use lib.Dec.{eqb}
 use Rattle.rules.specs.declared.Verdict.{Verdict}
-use Rattle.rules.specs.Refusal.{refusal, refusalOf, absent, proper, Exact}
+use Rattle.rules.specs.Refusal.{refusal, refusalOf, absent, proper, FirstIsGiven}
 use Rattle.rules.specs.Row.{Row, verdict, verdictOf, refusals, kAt, ExactRows}
 use Rattle.rules.proofs.Facts.{either-way, and-left, and-right}
 use Rattle.rules.proofs.Exactly.{exactly, Head, head}
@@ -92,5 +92,5 @@ named (r ∷ rs) p =
     (λ f. rw (f, ne-eqb (verdictOf rs .refused) (r .number) (not-given rs (r .number) (d .above) (d .once))) (named rs (d .rest)))
 
 pub exact-rows : ExactRows
-unfolding ExactRows Exact
+unfolding ExactRows FirstIsGiven
 exact-rows rs p = record { number = told rs; exactly = exactly (refusals rs) p; k = named rs p }

@@ -3,7 +3,7 @@ use mathlib.Core.Path.{_≡_}
 use mathlib.Core.Logic.{_↔_}
 use mathlib.Core.Bool.{Bool, true, false, cond, not, _&&_, _||_}
 use mathlib.Core.List.{List, [], _∷_}
-use Prim.Native.Nat.{ℕ}
+use Prim.Native.Nat.{ℕ, _<_}
 use lib.Dec.{eqb, ltb}
 
 pub record Refusal : Type 0 where
@@ -37,10 +37,26 @@ abbrev pub proper : List Refusal → Bool
 proper [] = true
 proper (r ∷ rs) = ltb 0 (r .number) && absent (r .number) rs && proper rs
 
--- a refusal is given exactly when it holds and none before it does; none is given exactly when none holds
+-- the first in the table's order: a refusal is given exactly when it holds and none before it does; none is given exactly when none holds
 pub record GivenExactly (rs : List Refusal) : Type 0 where
   pub some : (n : ℕ) → ((refusalOf rs ≡ n) × (ltb 0 n ≡ true)) ↔ ((holdsAt rs n ≡ true) × (earlier rs n ≡ false))
   pub none : (refusalOf rs ≡ 0) ↔ ((n : ℕ) → holdsAt rs n ≡ false)
 
-unfoldable pub Exact : Type 0
-Exact = (rs : List Refusal) → proper rs ≡ true → GivenExactly rs
+unfoldable pub FirstIsGiven : Type 0
+FirstIsGiven = (rs : List Refusal) → proper rs ≡ true → GivenExactly rs
+
+-- the table's numbers rise, from above 0
+abbrev pub risingFrom : ℕ → List Refusal → Bool
+risingFrom n [] = true
+risingFrom n (r ∷ rs) = ltb n (r .number) && risingFrom (r .number) rs
+
+abbrev pub rising : List Refusal → Bool
+rising rs = risingFrom 0 rs
+
+-- the lowest number that holds: a refusal is given exactly when it holds and no lower one does; none is given exactly when none holds
+pub record LowestGiven (rs : List Refusal) : Type 0 where
+  pub some : (n : ℕ) → ((refusalOf rs ≡ n) × (ltb 0 n ≡ true)) ↔ ((holdsAt rs n ≡ true) × ((m : ℕ) → m < n → holdsAt rs m ≡ false))
+  pub none : (refusalOf rs ≡ 0) ↔ ((n : ℕ) → holdsAt rs n ≡ false)
+
+unfoldable pub LowestIsGiven : Type 0
+LowestIsGiven = (rs : List Refusal) → rising rs ≡ true → LowestGiven rs

@@ -1,6 +1,6 @@
-// What every refusing function shares: rules as lists of tests, and the lowest refusal that holds, with its K.
+// What every refusing function shares: rules as lists of tests, and the refusal that a table gives, with its K.
 // Beside the verdict it has definitions and their laws alone; its functions stand for the laws of numbered refusals.
-ghost use Rattle.rules.specs.Refusal.{Exact};
+ghost use Rattle.rules.specs.Refusal.{FirstIsGiven, LowestIsGiven};
 ghost use Rattle.rules.specs.Row.{ExactRows};
 
 // The limits for stations, calls and turns (specs/Limits).
@@ -16,9 +16,14 @@ pub struct Verdict {
     pub k: usize,
 }
 
-// The lowest number that holds is given, and no refusal where none holds.
-pub fn lowest_is_exact()
-    ensures { λ r. ⌜ Exact ⌝ }
+// Of any table, the first in its order that holds is given, and no refusal where none holds.
+pub fn first_is_given()
+    ensures { λ r. ⌜ FirstIsGiven ⌝ }
+{}
+
+// Where the table's numbers rise, that is the lowest number that holds.
+pub fn lowest_is_given()
+    ensures { λ r. ⌜ LowestIsGiven ⌝ }
 {}
 
 // The same of a table with its K: each number comes with the K that its row names.

@@ -23,13 +23,13 @@ picture-spec =
     tie.close
     (tie.spec (λ c κs. search needs)
     (λ c.
-    let f = sym (c .before .sound .ensures) ∙ not-true _ (c .if1 .taken) in (simp f, simp f))
+    let f = sym (c .before .sound .ensures) ∙ not-true _ (c .if1 .taken) in record { answered = simp f; left = simp f })
     (λ c. omega (arith, few (c .before)))
     (λ c. omega (arith, few (c .before)))
     (λ c. search needs)
     (λ c.
     let t = is-sound (c .before .before) in
-    let f = lt-ltb _ _ (c .if2 .taken) in (simp (t, f), simp (t, f)))
+    let f = lt-ltb _ _ (c .if2 .taken) in record { answered = simp (t, f); left = simp (t, f) })
     (λ c κs. (few (c .before .before .before), c .before .if2 .left))
     (λ c. search needs)
     (λ c.
@@ -37,7 +37,7 @@ picture-spec =
     let o = r .before .before in
     let a = o .before .before .before .before .before .args in
     let t = is-sound (o .before .before) in
-    let f = le-ltb _ _ (o .if2 .left) in (
-      simp (t, f),
-      simp (t, f) (r .put-registers .ensures ∙ in-front (a .bench) (a .out .now) (o .if2 .left)),
-    )))
+    let f = le-ltb _ _ (o .if2 .left) in record {
+      answered = simp (t, f);
+      left = simp (t, f) (r .put-registers .ensures ∙ in-front (a .bench) (a .out .now) (o .if2 .left));
+    }))
