@@ -68,6 +68,15 @@ fn with_count(c: u32) -> Bench {
     w
 }
 
+// Record 0, which belongs to no station, with the count c.
+fn with_record_0(c: u32) -> Bench {
+    let mut w = two();
+    let mut t = w.stations[0];
+    t.c = c;
+    w.stations[0] = t;
+    w
+}
+
 fn with_version(seq: u32) -> Bench {
     let mut w = two();
     let v = Halves {
@@ -172,6 +181,7 @@ fn stations() {
     offer(b"station 2 of 2, read", two(), 2, 0, 0, 0);
     offer(b"station 3 of 2, read", two(), 3, 0, 0, 0);
     offer(b"station 3 of 2, kind 4", two(), 3, 4, 0, 0);
+    offer(b"record 0 with c 1, read", with_record_0(1), 1, 0, 0, 0);
 }
 
 fn kinds() {
