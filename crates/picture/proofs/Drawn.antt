@@ -29,7 +29,7 @@ inBytes-append (x ∷ xs) ys = ap (λ l. bytes 8 x ++ l) (inBytes-append xs ys) 
 pub length-entryWords : (l : List Halves) (k : ℕ) → length (entryWords l k) ≡ k
 unfolding entryWords
 length-entryWords l zero = refl
-length-entryWords l (suc k) = length-append (entryWords l k) (wordOf (getD l (suc k) (halves 0 0)) ∷ []) ∙ rw (length-entryWords l k) (omega arith)
+length-entryWords l (suc k) = length-append (entryWords l k) _ ∙ rw (length-entryWords l k) (omega arith)
 
 -- words drawn, and then more words
 pub more : (out : List ℕ) (i j : ℕ) (xs ys : List ℕ) → j ≡ i + 8 * length xs → sets (sets out i (inBytes xs)) j (inBytes ys) ≡ sets out i (inBytes (xs ++ ys))

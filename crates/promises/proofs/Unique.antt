@@ -2,14 +2,8 @@
 use mathlib.Core.Path.{_≡_, _∙_, sym, ap}
 use mathlib.Core.List.{List}
 use Prim.Native.Nat.{ℕ}
-use Rattle.bench.specs.declared.Bench.{Bench}
 use Rattle.run.specs.Trace.{lentRow, TracedTo}
-use Rattle.picture.specs.declared.Drawing.{Drawing}
-use Rattle.picture.specs.Picture.{DrawnTo}
-use Rattle.promises.specs.Unique.{Left, LeftRows, Unique, OneResult}
-
-by-buffer : (w : Bench) (out : List ℕ) → Unique (Left Drawing) (λ r. DrawnTo w out (r .result) (r .out))
-by-buffer w out x y p q = λ i. record { result = (p .answered ∙ sym (q .answered)) i; out = (p .left ∙ sym (q .left)) i }
+use Rattle.promises.specs.Unique.{LeftRows, Unique, OneResult}
 
 by-rows : (file own told point list : List ℕ) → Unique LeftRows (λ r. TracedTo file own told point list (r .trace) (r .own) (r .told) (r .point) (r .list))
 by-rows file own told point list x y p q =
@@ -24,4 +18,8 @@ by-rows file own told point list x y p q =
     }
 
 pub one-result : OneResult
-one-result = record { picture = by-buffer; traced = by-rows }
+one-result =
+    record {
+      picture = λ w out x y p q i. record { result = (p .answered ∙ sym (q .answered)) i; out = (p .left ∙ sym (q .left)) i };
+      traced = by-rows;
+    }
