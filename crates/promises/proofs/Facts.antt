@@ -7,7 +7,7 @@ use native.Mathlib.Nat.{mod-eq-of-lt}
 use borrow.Author.Tests.{eqb-true, eq-eqb, not-false}
 use lib.Dec.{eqb}
 use lib.ListN.{getD, set, length}
-use lib.Seq.{getD-set-same}
+use lib.Seq.{getD-set-same, getD-set-other}
 use Rattle.rules.specs.Test.{Facts}
 use Rattle.card.specs.Register.{claim, halves}
 use Rattle.card.specs.Word.{revisionA, claimWord}
@@ -64,21 +64,25 @@ module _ (w : Bench) (u : Turn) (inside : u .station < length (w .stations)) whe
   put : (v : Bench) (x : Station) → v .stations ≡ w .stations → stationAt (putStation i x v) i ≡ x
   put v x q = ap (λ l. getD (set l i x) i (resting 0)) q ∙ getD-set-same (w .stations) i x (resting 0) inside
 
+  elsewhere : (v : Bench) (x : Station) → v .stations ≡ w .stations → (j : ℕ) → (j ≡ i → ⊥) → stationAt (putStation i x v) j ≡ stationAt w j
+  elsewhere v x q j ne = ap (λ l. getD (set l i x) j (resting 0)) q ∙ getD-set-other (w .stations) i j x (resting 0) ne
+
   goes-on : (p : Place) (v : Bench) (x : Station) → atRest p ≡ false → v .stations ≡ w .stations → x .call ≡ t .call → Shown w u p (turned Going (putStation i x v))
   goes-on p v x e q c =
       record {
         begins = λ r n. absurd (true≢false (sym r ∙ e));
         goes = λ r n. ap (λ (z : Station). z .call) (put v x q) ∙ c;
+        others = elsewhere v x q;
         hands = λ r n. absurd (omega arith);
         ends = λ n. absurd (omega arith);
       }
 
   -- a station at rest whose turn is idle, ends its call at once, or goes past place 5
   idles : Shown w u Rest (turned Idle w)
-  idles = record { begins = λ r n. absurd (omega arith); goes = λ r n. absurd (omega arith); hands = λ r n. absurd (omega arith); ends = λ n. absurd (omega arith) }
+  idles = record { begins = λ r n. absurd (omega arith); goes = λ r n. absurd (omega arith); others = λ j ne. refl; hands = λ r n. absurd (omega arith); ends = λ n. absurd (omega arith) }
 
   at-once : (r o : ℕ) → t ≡ resting (t .c) → Shown w u Rest (turned (Ended r o) w)
-  at-once r o e = record { begins = λ r n. absurd (omega arith); goes = λ r n. absurd (true≢false r); hands = λ r n. absurd (true≢false r); ends = λ n. e }
+  at-once r o e = record { begins = λ r n. absurd (omega arith); goes = λ r n. absurd (true≢false r); others = λ j ne. refl; hands = λ r n. absurd (true≢false r); ends = λ n. e }
 
   from-rest : (none reads other same : Bool) (v y z : ℕ) → not (eqb (w .v .second) (u .a)) ≡ other → t ≡ resting (t .c)
       → Shown w u Rest
@@ -96,6 +100,7 @@ module _ (w : Bench) (u : Turn) (inside : u .station < length (w .stations)) whe
           ap (λ (z : Station). z .call) (put w (begun (call (u .kind) (u .a) (u .b)) (w .v .first) (t .c)) refl),
         );
         goes = λ q n. absurd (true≢false q);
+        others = elsewhere w (begun (call (u .kind) (u .a) (u .b)) (w .v .first) (t .c)) refl;
         hands = λ q n. absurd (omega arith);
         ends = λ n. absurd (omega arith);
       }
@@ -117,6 +122,7 @@ module _ (w : Bench) (u : Turn) (inside : u .station < length (w .stations)) whe
       record {
         begins = λ q n. absurd (omega arith);
         goes = λ q n. absurd (omega arith);
+        others = elsewhere w (resting (t .c)) refl;
         hands = λ q n e. rw (eq-eqb (t .call .kind) 2 e);
         ends = λ n. put w (resting (t .c)) refl;
       }
@@ -127,7 +133,7 @@ turn-shown w u l s =
     let t = stationAt w i in
     let f = facts w s in
     by-turn (Shown w u (t .place)) w u
-    (λ number. record { begins = λ r n. absurd (omega arith); goes = λ r n. absurd (omega arith); hands = λ r n. absurd (omega arith); ends = λ n. absurd (omega arith) })
+    (λ number. record { begins = λ r n. absurd (omega arith); goes = λ r n. absurd (omega arith); others = λ j ne. refl; hands = λ r n. absurd (omega arith); ends = λ n. absurd (omega arith) })
     (λ k.
     let h : i < 33 = omega (arith, k .high, f .head .0 .1 .0) in
     shown w u (omega arith) (t .place) (λ e. rests t e (rw e at (f .station i h .stands .rest))))

@@ -20,7 +20,9 @@ pub record Shown (w : Bench) (u : Turn) (p : Place) (x : Turned) : Type 0 where
       → (w .v .second ≡ u .a) × (stationAt (x .bench) (u .station) .call ≡ call (u .kind) (u .a) (u .b))
   -- it goes on as the call that it began as
   pub goes : atRest p ≡ false → told (x .answer) .case ≡ 1 → stationAt (x .bench) (u .station) .call ≡ stationAt w (u .station) .call
-  -- so a swap that ends there hands back, with its a, the value that its place 5 read
+  -- turns of other stations leave its record as it was
+  pub others : (j : ℕ) → (j ≡ u .station → ⊥) → stationAt (x .bench) j ≡ stationAt w j
+  -- so a swap that ends at place 20 hands back, with its a, the value that its place 5 read
   pub hands : atRest p ≡ false → told (x .answer) .case ≡ 2 → stationAt w (u .station) .call .kind ≡ 2
       → told (x .answer) .result ≡ stationAt w (u .station) .call .a
   -- a call that ends leaves its station at rest, its record zero in all but c
