@@ -13,8 +13,8 @@ use Rattle.method.specs.declared.Call.{Call}
 use Rattle.method.specs.declared.Answer.{Answer}
 use Rattle.method.specs.declared.Answer.the-variants.{Idle, Going, Ended, Refused}
 use Rattle.method.specs.Record.{atRest, call}
-use Rattle.method.specs.World.{upd}
-use Rattle.method.specs.Events.{operates}
+use Rattle.method.specs.Update.{upd}
+use Rattle.method.specs.Operation.{operates}
 use Rattle.method.proofs.Upd.{upd-same, upd-other, upd-all}
 use Rattle.bench.specs.declared.Bench.{Bench}
 use Rattle.bench.specs.Record.{stationAt}

@@ -18,7 +18,8 @@ use Rattle.method.specs.declared.Answer.the-variants.{Idle, Going, Ended}
 use Rattle.method.specs.Record.{call, resting}
 use Rattle.method.specs.Table.{handed, goes, begun, grown, row}
 use Rattle.method.specs.Effect.{oneWord, points}
-use Rattle.method.specs.World.{World, Stepped, onWorld, upd, taking}
+use Rattle.method.specs.Update.{upd}
+use Rattle.method.specs.World.{World, Stepped, onWorld, taking}
 use Rattle.method.specs.World as World
 use Rattle.method.specs.Watch.{Event, Watcher, watching, watched, Good}
 use Rattle.method.specs.Events.{eventsOf}

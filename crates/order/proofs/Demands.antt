@@ -7,7 +7,7 @@ use native.Mathlib.Omega.{arith}
 use native.Mathlib.Decide.{decLe}
 use lib.ListN.{getD}
 use Rattle.method.specs.Record.{atRest, call}
-use Rattle.method.specs.Events.{operates}
+use Rattle.method.specs.Operation.{operates}
 use Rattle.method.proofs.Upd.{upd-other}
 use Rattle.method.proofs.Inv.{values}
 use Rattle.bench.specs.declared.Bench.{Bench}

@@ -11,7 +11,7 @@ use lib.ListN.{length, getD, set}
 use Rattle.rules.proofs.Facts.{and-left, and-right}
 use Rattle.method.specs.declared.Answer.{Answer}
 use Rattle.method.specs.Record.{atRest, call}
-use Rattle.method.specs.Events.{operates}
+use Rattle.method.specs.Operation.{operates}
 use Rattle.bench.specs.declared.Bench.{Bench}
 use Rattle.bench.specs.Record.{blank, stationAt}
 use Rattle.bench.specs.Turn.{freshOf}

@@ -3,8 +3,9 @@ use mathlib.Core.Path.{_≡_, refl, _∙_, sym, ap, subst, subst⁻¹}
 use Prim.Native.Nat.{ℕ, _+_, _≤_}
 use native.Mathlib.Omega.{arith}
 use Rattle.method.specs.declared.Call.{Call}
-use Rattle.method.specs.World.{upd}
-use Rattle.method.specs.Watch.{answer, left, Agrees, Phase, Free, Begun, Done, Watcher, putPhase, pointed}
+use Rattle.method.specs.Update.{upd}
+use Rattle.method.specs.OneWord.{answer, left, Agrees}
+use Rattle.method.specs.Watch.{Phase, Free, Begun, Done, Watcher, putPhase, pointed}
 use Rattle.method.proofs.Upd.{upd-same, upd-other, upd-all}
 use Rattle.order.specs.Log.{Log, begins, works, lists, ends}
 use Rattle.order.specs.Accepted.{times, answered, served}

@@ -9,7 +9,7 @@ use lib.Dec.{eqb}
 use lib.ListN.{length, getD}
 use Rattle.rules.proofs.Facts.{either-way}
 use Rattle.method.specs.declared.Call.{Call}
-use Rattle.method.specs.Watch.{answer, left}
+use Rattle.method.specs.OneWord.{answer, left}
 use Rattle.order.specs.Accepted.{times, Each, Pairs, answered, served}
 
 pub times-more : (c d : ℕ) (l : List ℕ) → times c (l ++ (d ∷ [])) ≡ times c l + cond (eqb c d) 1 0

@@ -3,7 +3,7 @@ use mathlib.Core.Path.{_≡_}
 use mathlib.Core.Logic.{_⊎_}
 use Prim.Native.Nat.{ℕ, _≤_}
 use native.Mathlib.Omega.{arith}
-use Rattle.method.specs.World.{upd}
+use Rattle.method.specs.Update.{upd}
 use Rattle.method.proofs.Upd.{upd-other, upd-all}
 
 abbrev pub Took : ℕ → Type 0

@@ -9,7 +9,7 @@ use Rattle.method.specs.declared.Call.{Call}
 use Rattle.method.specs.declared.Answer.{Answer}
 use Rattle.method.specs.declared.Answer.the-variants.{Idle, Going, Ended, Refused}
 use Rattle.method.specs.Record.{atRest, call}
-use Rattle.method.specs.Events.{operates}
+use Rattle.method.specs.Operation.{operates}
 use Rattle.bench.specs.declared.Bench.{Bench}
 use Rattle.bench.specs.Record.{stationAt}
 use Rattle.bench.specs.Points.{pointsIn}

@@ -13,9 +13,10 @@ use Rattle.method.specs.declared.Answer.the-variants.{Idle, Going, Ended, Refus
 use Rattle.method.specs.declared.Station.{Station}
 use Rattle.method.specs.Record.{num, atRest, call, resting}
 use Rattle.method.specs.Effect.{points}
-use Rattle.method.specs.World.{upd}
+use Rattle.method.specs.Update.{upd}
 use Rattle.method.specs.Watch.{Free, Point, End, Watcher, watching, watched, Good}
-use Rattle.method.specs.Events.{eventsOf, operates}
+use Rattle.method.specs.Operation.{operates}
+use Rattle.method.specs.Events.{eventsOf}
 use Rattle.method.proofs.Upd.{upd-same, upd-other, upd-all}
 use Rattle.method.proofs.Inv.{Inv, free-is-rest}
 use Rattle.bench.specs.declared.Bench.{Bench}

@@ -5,7 +5,7 @@ use mathlib.Core.List.{List, [], _∷_}
 use Prim.Native.Nat.{ℕ, _+_, _≤_}
 use lib.Dec.{eqb}
 use Rattle.method.specs.declared.Call.{Call}
-use Rattle.method.specs.Watch.{answer, left, Agrees}
+use Rattle.method.specs.OneWord.{answer, left, Agrees}
 use Rattle.order.specs.Log.{Log}
 
 -- how often call c stands in a list

@@ -7,7 +7,7 @@ use Rattle.method.specs.declared.Call.{Call}
 use Rattle.method.specs.declared.Answer.{Answer}
 use Rattle.method.specs.declared.Answer.the-variants.{Idle, Going, Ended, Refused}
 use Rattle.method.specs.Record.{atRest, call}
-use Rattle.method.specs.World.{upd}
+use Rattle.method.specs.Update.{upd}
 use Rattle.bench.specs.declared.Bench.{Bench}
 use Rattle.bench.specs.Record.{stationAt}
 use Rattle.bench.specs.Turn.{freshOf}
