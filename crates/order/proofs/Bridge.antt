@@ -155,6 +155,11 @@ row-shape At18 w i t kind a b s =
 row-shape At19 w i t kind a b s = put-shape w i (goes t At20) s
 row-shape At20 w i t kind a b s = put-shape w i (resting (t .c)) s
 
+pub turn-shape : {n : ℕ} (w : Bench) (u : Turn) → Shape n w → Shape n (turnBy w u .bench)
+turn-shape {n} w u s =
+    let i = u .station in
+    by-turn (λ x. Shape n (x .bench)) w u (λ number. s) (λ k. row-shape (stationAt w i .place) w i (stationAt w i) (u .kind) (u .a) (u .b) s)
+
 -- a turn with the outcome x: its events fit what was watched, and lead on to its bench
 pub record Follows (m : Watcher) (w : Bench) (u : Turn) (x : Turned) : Type 0 where
   pub good : Good m (eventsIn w u (x .answer))

@@ -1,4 +1,7 @@
 pub mod Log
 pub mod Accepted
+pub mod Steps
+pub mod Pinned
 pub mod Demand
 pub mod Files
+pub mod Journal

@@ -2,7 +2,7 @@
 // They rest on the rooms' own proofs and assume nothing.
 ghost use Rattle.card.specs.Promise.{Card};
 ghost use Rattle.bench.specs.Promise.{RefusesExactly, KeptSound, OwnTurnsCount};
-ghost use Rattle.order.specs.Demand.{EveryRun};
+ghost use Rattle.order.specs.Demand.{EveryRun, WaitFree};
 ghost use Rattle.order.specs.Files.{EveryFile};
 ghost use Rattle.promises.specs.Runs.{RunsToCheck};
 ghost use Rattle.promises.specs.Unique.{OneResult};
@@ -37,7 +37,12 @@ pub fn every_run_is_one_word()
     ensures { λ r. ⌜ EveryRun ⌝ }
 {}
 
-// The same for every file that reads well, with its call numbers and the very list that the report prints.
+// No call waits for another station: from a fresh bench, a turn of a station in a call does its operation, so that its tenth such turn ends it.
+pub fn no_call_waits()
+    ensures { λ r. ⌜ WaitFree ⌝ }
+{}
+
+// Demand 3 for every file that reads well, with its call numbers and the very list that the report prints.
 pub fn every_file_is_one_word()
     ensures { λ r. ⌜ EveryFile ⌝ }
 {}
