@@ -124,7 +124,7 @@ module _ {x now : ℕ} {owns : ℕ → ℕ} {m : Watcher} {g : Journal} (k : Kep
         record {
           some = u .0;
           mine = upd-same (g .station) c i;
-          begun = rw (upd-same (g .first) c now) t;
+          begun = subst⁻¹ (λ n. 1 ≤ n) (upd-same (g .first) c now) t;
           going = no-end-yet c u;
           turns = upd-same (g .own) c 0 ∙ sym none;
         }

@@ -7,6 +7,7 @@ pub mod Entered
 pub mod Owns
 pub mod Same
 pub mod Turns
+pub mod Decided
 pub mod Parts
 pub mod Pins
 pub mod Demands

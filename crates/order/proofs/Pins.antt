@@ -98,6 +98,11 @@ pub record Pins (steps : List Step) (now : ℕ) (g : Journal) : Type 0 where
   pub latest : (i : ℕ) → g .latest i ≡ latestIn steps now i
   pub list : g .list ≡ effects steps now
 
+-- a turn that does no operation counts for no call
+none-more : (acts same : Bool) (n : ℕ) → acts ≡ false → n ≡ n + cond (acts && same) 1 0
+none-more true same n e = absurd (false≢true (sym e))
+none-more false same n e = omega arith
+
 -- what the operation of a turn adds to it
 record Worked (steps : List Step) (now : ℕ) (g : Journal) : Type 0 where
   lasts : Lasts steps now (g .last) (g .result) (g .own)
@@ -117,15 +122,6 @@ module _ (steps : List Step) (now : ℕ) {g : Journal} (p : Pins steps now g) wh
   abbrev l : ℕ
   l = cond rests (s .offer) (g .latest i)
 
-  -- the call that an operation is for
-  call-is : operates (answerOf s) ≡ true → callIn steps (suc now) ≡ l
-  unfolding latestIn
-  call-is e = rw (e, eq-eqb i i refl) (by rests)
-    where
-      by : (b : Bool) → cond (b && true) (s .offer) (latestIn steps now i) ≡ cond b (s .offer) (g .latest i)
-      by true = refl
-      by false = sym (p .latest i)
-
   abbrev o : Call
   o = call (s .turn .kind) (s .turn .a) (s .turn .b)
 
@@ -139,6 +135,15 @@ module _ (steps : List Step) (now : ℕ) {g : Journal} (p : Pins steps now g) wh
   unfolding latestIn
   latest-now j = latest-by (beginsCall s) j
 
+  -- the call that an operation is for
+  opening-is : (acts rests : Bool) → acts ≡ true → opening (acts && rests) (suc now) (s .offer) i o g .latest i ≡ cond rests (s .offer) (g .latest i)
+  opening-is true true e = upd-same (g .latest) i (s .offer)
+  opening-is true false e = refl
+  opening-is false rests e = absurd (false≢true e)
+
+  call-is : operates (answerOf s) ≡ true → callIn steps (suc now) ≡ l
+  call-is e = sym (latest-now i) ∙ opening-is (operates (answerOf s)) rests e
+
   firsts-now : (b : Bool) → beginsCall s ≡ b → (b ≡ true → Unbegun g (s .offer))
       → let g′ = opening b (suc now) (s .offer) i o g in
       Firsts steps (suc now) (g′ .first) (g′ .station) (g′ .call)
@@ -150,7 +155,7 @@ module _ (steps : List Step) (now : ℕ) {g : Journal} (p : Pins steps now g) wh
   no-work e =
       record {
         lasts = none-ends steps now (p .lasts) (λ r n q. false≢true (sym e ∙ ap operates q)) (λ c h. refl);
-        own = λ c. rw e (omega (arith, p .own c));
+        own = λ c. p .own c ∙ none-more (operates (answerOf s)) (eqb c (callIn steps (suc now))) (operationsFor steps now c) e;
         idle = p .idle;
       }
 

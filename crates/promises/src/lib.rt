@@ -3,6 +3,7 @@
 ghost use Rattle.card.specs.Promise.{Card};
 ghost use Rattle.bench.specs.Promise.{RefusesExactly, KeptSound, OwnTurnsCount};
 ghost use Rattle.order.specs.Demand.{EveryRun, WaitFree};
+ghost use Rattle.order.specs.Decided.{LogDecided};
 ghost use Rattle.order.specs.Files.{EveryFile};
 ghost use Rattle.promises.specs.Runs.{RunsToCheck};
 ghost use Rattle.promises.specs.Unique.{OneResult};
@@ -35,6 +36,11 @@ pub fn own_turns_are_operations()
 // Demand 3: every run from a fresh bench, with any turns and offers, behaves as one word served one call at a time.
 pub fn every_run_is_one_word()
     ensures { λ r. ⌜ EveryRun ⌝ }
+{}
+
+// The log that it speaks of is decided by the turns of the run: two logs that are pinned to them say the same.
+pub fn the_turns_decide_the_log()
+    ensures { λ r. ⌜ LogDecided ⌝ }
 {}
 
 // No call waits for another station: from a fresh bench, a turn of a station in a call does its operation, so that its tenth such turn ends it.
