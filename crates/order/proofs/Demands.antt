@@ -1,7 +1,6 @@
 -- Demand 3 from the invariant. Assumes nothing.
 use mathlib.Core.Path.{_≡_, refl, _∙_, ap, subst}
 use mathlib.Core.Bool.{Bool, true, false, _&&_}
-use mathlib.Core.List.{List, [], _∷_}
 use Prim.Native.Nat.{ℕ, _+_, _≤_, _<_}
 use native.Mathlib.Omega.{arith}
 use native.Mathlib.Decide.{decLe}
@@ -14,7 +13,6 @@ use Rattle.method.proofs.Inv.{values}
 use Rattle.bench.specs.declared.Bench.{Bench}
 use Rattle.bench.specs.Record.{stationAt}
 use Rattle.bench.specs.Promise.{Turn, turnBy, after}
-use Rattle.run.proofs.Start.{fresh-bench}
 use Rattle.order.specs.Journal.{Journal, logIn, logged}
 use Rattle.order.specs.Accepted.{times, Fits, Accepted}
 use Rattle.order.specs.Demand.{Pairs, Demand3}

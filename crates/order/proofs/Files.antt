@@ -6,7 +6,6 @@ use mathlib.Core.List.{List, [], _∷_}
 use Prim.Native.Nat.{ℕ, suc, _+_, _≤_, _<_}
 use native.Mathlib.Omega.{arith}
 use borrow.Author.Tests.{eq-eqb, ne-eqb}
-use lib.Dec.{eqb}
 use lib.ListN.{length, getD, set}
 use Rattle.rules.proofs.Facts.{and-left, and-right}
 use Rattle.method.specs.declared.Answer.{Answer}

@@ -1,31 +1,19 @@
 -- The parts of `Pinned`, and what one more turn adds to each: first turns, last turns, points. Assumes nothing.
-use mathlib.Core.Path.{_≡_, refl, _∙_, sym, ap, subst, subst⁻¹}
-use mathlib.Core.Bool.{Bool, true, false, cond, _&&_, false≢true}
-use mathlib.Core.List.{List, [], _∷_, _++_, map}
-use Prim.Native.Nat.{ℕ, suc, _+_, _≤_}
+use mathlib.Core.Path.{_≡_, refl, _∙_, sym, ap, subst⁻¹}
+use mathlib.Core.Bool.{true, false, false≢true}
+use mathlib.Core.List.{List}
+use Prim.Native.Nat.{ℕ, suc, _≤_}
 use native.Mathlib.Omega.{arith}
 use native.Mathlib.Decide.{decLe}
-use borrow.Author.Tests.{eq-eqb, ne-eqb}
-use lib.Dec.{eqb}
-use Rattle.rules.proofs.Facts.{either-way, and-left, and-right}
 use Rattle.method.specs.declared.Call.{Call}
-use Rattle.method.specs.declared.Answer.{Answer}
-use Rattle.method.specs.declared.Answer.the-variants.{Idle, Going, Ended, Refused}
-use Rattle.method.specs.Record.{atRest, call}
-use Rattle.method.specs.Operation.{operates}
+use Rattle.method.specs.declared.Answer.the-variants.{Ended}
+use Rattle.method.specs.Record.{call}
 use Rattle.method.specs.Update.{upd}
 use Rattle.method.proofs.Upd.{upd-same, upd-other, upd-all}
-use Rattle.bench.specs.declared.Bench.{Bench}
-use Rattle.bench.specs.Record.{stationAt}
-use Rattle.bench.specs.Points.{pointsIn}
-use Rattle.bench.specs.Promise.{Turn, turnBy}
 use Rattle.order.specs.Accepted.{times}
-use Rattle.order.specs.Steps.{Step, stepAt, stationOf, answerOf, beginsCall, latestIn, callIn, operationsFor, pointed, effects}
-use Rattle.order.specs.Pinned.{Begins, Ends, Pinned}
-use Rattle.order.specs.Journal.{Journal, logIn, ends, acts, logged}
-use Rattle.order.proofs.Kept.{Unbegun}
+use Rattle.order.specs.Steps.{Step, stepAt, stationOf, answerOf, beginsCall, callIn, pointed}
+use Rattle.order.specs.Pinned.{Begins, Ends}
 use Rattle.order.proofs.Entered.{Entered}
-use Rattle.order.proofs.Same.{Same, enter-all, Opened, opening, opens}
 
 -- what holds of each turn till now, and of the next one, holds of each till then
 till : (P : ℕ → Type 0) (now : ℕ) → ((k : ℕ) → k ≤ now → P k) → P (suc now) → (k : ℕ) → k ≤ suc now → P k

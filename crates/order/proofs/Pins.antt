@@ -1,10 +1,9 @@
 -- Each turn of a run keeps its log pinned to the turns: first and last turns, own turns and points. Assumes nothing.
-use mathlib.Core.Path.{_≡_, refl, _∙_, sym, ap, subst, subst⁻¹}
+use mathlib.Core.Path.{_≡_, refl, _∙_, sym, ap, subst}
 use mathlib.Core.Bool.{Bool, true, false, cond, _&&_, false≢true}
-use mathlib.Core.List.{List, [], _∷_, _++_, map}
+use mathlib.Core.List.{List, _++_, map}
 use Prim.Native.Nat.{ℕ, suc, _+_, _≤_}
 use native.Mathlib.Omega.{arith}
-use native.Mathlib.Decide.{decLe}
 use borrow.Author.Tests.{eq-eqb, ne-eqb}
 use lib.Dec.{eqb}
 use Rattle.rules.proofs.Facts.{either-way, and-left, and-right}
@@ -18,16 +17,15 @@ use Rattle.method.proofs.Upd.{upd-same, upd-other, upd-all}
 use Rattle.bench.specs.declared.Bench.{Bench}
 use Rattle.bench.specs.Record.{stationAt}
 use Rattle.bench.specs.Points.{pointsIn}
-use Rattle.bench.specs.Promise.{Turn, turnBy, after}
-use Rattle.order.specs.Accepted.{times}
+use Rattle.bench.specs.Promise.{Turn, after}
 use Rattle.order.specs.Steps.{Step, stepAt, stationOf, answerOf, beginsCall, latestIn, callIn, operationsFor, pointed, effects}
-use Rattle.order.specs.Pinned.{Begins, Ends, Pinned}
+use Rattle.order.specs.Pinned.{Pinned}
 use Rattle.order.specs.Journal.{Journal, logIn, noCalls, ends, acts, entered, logged}
 use Rattle.order.proofs.Kept.{Unbegun, no-end-yet}
 use Rattle.order.proofs.Entered.{Entered}
 use Rattle.order.proofs.Parts.{Firsts, Lasts, Pointed, none-begins, one-begins, none-ends, one-ends, points-now}
 use Rattle.order.proofs.Turns.{Held, own-turn, turn-enters, turn-mine, turn-rest}
-use Rattle.order.proofs.Same.{Same, enter-all, Opened, opening, opens}
+use Rattle.order.proofs.Same.{Same, enter-all, opening, opens}
 
 -- what an operation of station i for the call l makes of a journal
 record Did (i l : ℕ) (g g′ : Journal) : Type 0 where

@@ -1,5 +1,5 @@
 -- Demand 3 for every run: turn by turn the invariant holds and the log is pinned. Assumes nothing.
-use mathlib.Core.Path.{_≡_, refl, _∙_, sym, ap, subst, subst⁻¹}
+use mathlib.Core.Path.{_≡_, refl, _∙_, ap, subst, subst⁻¹}
 use mathlib.Core.Bool.{true}
 use mathlib.Core.List.{List, [], _∷_}
 use Prim.Native.Nat.{ℕ, suc, _+_, _≤_, _<_}
@@ -12,10 +12,10 @@ use Rattle.bench.specs.Record.{blank, stationAt}
 use Rattle.bench.specs.Turn.{freshOf}
 use Rattle.bench.specs.Promise.{Turn, turnBy, after}
 use Rattle.run.proofs.Start.{fresh-bench}
-use Rattle.order.specs.Steps.{Step, stepsFrom, noStep, stationOf, answerOf, latestIn, operationsFor, effects}
+use Rattle.order.specs.Steps.{Step, stepsFrom, noStep, stationOf, answerOf, effects}
 use Rattle.order.specs.Pinned.{Pinned}
 use Rattle.order.specs.Journal.{Journal, logIn, noCalls, logged, journalFrom, journalOf}
-use Rattle.order.specs.Demand.{Demand3, OneWordRun, EveryRun}
+use Rattle.order.specs.Demand.{Demand3, EveryRun}
 use Rattle.order.proofs.Kept.{Unbegun}
 use Rattle.order.proofs.Turns.{Held, turn-held, fresh-held}
 use Rattle.order.proofs.Pins.{Pins, pinned, turn-pins, no-pins}
