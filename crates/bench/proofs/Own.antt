@@ -22,7 +22,7 @@ use Rattle.bench.specs.declared.Turned.{Turned}
 use Rattle.method.specs.declared.Answer.{Answer}
 use Rattle.method.specs.declared.Answer.the-variants.{Idle, Going, Ended, Refused}
 use Rattle.method.specs.Record.{atRest, told, call, resting}
-use Rattle.method.specs.Events.{operates}
+use Rattle.method.specs.Operation.{operates}
 use Rattle.method.specs.Table.{handed, sees, goes, begun, grown, row2, row}
 use Rattle.bench.specs.Record.{stationAt, putStation, turned, onBench}
 use Rattle.bench.specs.Sound.{sound}

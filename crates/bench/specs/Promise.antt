@@ -10,7 +10,7 @@ use Rattle.rules.specs.Refusal.{Refusal, refusalOf, holdsAt, earlier}
 use Rattle.bench.specs.declared.Bench.{Bench}
 use Rattle.bench.specs.declared.Turned.{Turned}
 use Rattle.method.specs.Record.{atRest, Told, told}
-use Rattle.method.specs.Events.{operates}
+use Rattle.method.specs.Operation.{operates}
 use Rattle.bench.specs.Record.{stationAt}
 use Rattle.bench.specs.Sound.{sound}
 use Rattle.bench.specs.Turn.{turnRefusals, turnOf, freshOf}

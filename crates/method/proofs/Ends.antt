@@ -14,7 +14,8 @@ use Rattle.method.specs.Record.{num, call, resting}
 use Rattle.method.specs.Table.{handed, begun, row5, row}
 use Rattle.method.specs.Effect.{points}
 use Rattle.method.specs.World.{World, Stepped, putStation, putWord, onWorld, WorldTurn}
-use Rattle.method.specs.Watch.{answer, left, Agrees, Phase, Free, Begun, Event, Begin, Point, End, putPhase}
+use Rattle.method.specs.OneWord.{answer, left, Agrees}
+use Rattle.method.specs.Watch.{Phase, Free, Begun, Event, Begin, Point, End, putPhase}
 use Rattle.method.specs.Events.{eventsAt}
 use Rattle.method.proofs.Upd.{upd-same, upd-other, upd-all}
 use Rattle.method.proofs.Watched.{Leads, leads-none, leads-to, leads-on, leads-begin, leads-end, at-once, finds, misses}

@@ -12,7 +12,8 @@ use Rattle.card.specs.declared.Claim.{Claim}
 use Rattle.method.specs.declared.Call.{Call}
 use Rattle.method.specs.declared.Station.{Station}
 use Rattle.method.specs.Effect.{loses, losers}
-use Rattle.method.specs.Watch.{answer, left, Phase, Begun, Done, Event, Point, Watcher}
+use Rattle.method.specs.OneWord.{answer, left}
+use Rattle.method.specs.Watch.{Phase, Begun, Done, Event, Point, Watcher}
 use Rattle.method.proofs.Upd.{upd-all, upd-id}
 use Rattle.method.proofs.Watched.{Leads, leads-none, leads-to, leads-on, leads-point}
 

@@ -17,8 +17,10 @@ use Rattle.method.specs.declared.Station.{Station}
 use Rattle.method.specs.Record.{num}
 use Rattle.method.specs.Table.{goes}
 use Rattle.method.specs.Effect.{loses, losers}
-use Rattle.method.specs.World.{World, upd, putRegisters, putStation}
-use Rattle.method.specs.Watch.{answer, left, Begun, Done, Point, Phase, Watcher, pointed}
+use Rattle.method.specs.Update.{upd}
+use Rattle.method.specs.World.{World, putRegisters, putStation}
+use Rattle.method.specs.OneWord.{answer, left}
+use Rattle.method.specs.Watch.{Begun, Done, Point, Phase, Watcher, pointed}
 use Rattle.method.proofs.Upd.{upd-same, upd-other, upd-all}
 use Rattle.method.proofs.Places.{rest-or-call, from-get}
 use Rattle.method.proofs.Watched.{finds, misses, leads-to, leads-on, leads-point}

@@ -14,7 +14,8 @@ use Rattle.method.specs.declared.Place.the-variants.{At11, At12, At13, A
 use Rattle.method.specs.declared.Station.{Station}
 use Rattle.method.specs.Record.{num}
 use Rattle.method.specs.Table.{sees, goes, grown, agrees, row11, row12, row13, row14, row15, row16, row18, row19}
-use Rattle.method.specs.World.{World, upd, putRegisters, putStation, onWorld}
+use Rattle.method.specs.Update.{upd}
+use Rattle.method.specs.World.{World, putRegisters, putStation, onWorld}
 use Rattle.method.proofs.Upd.{upd-same, upd-other, upd-all, upd-id}
 use Rattle.method.proofs.Kept.{StandsIn, Kept, stands-at}
 use Rattle.method.proofs.Step.{AStep, RStep, PStep, Step, keeps, grows, none}

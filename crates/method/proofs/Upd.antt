@@ -4,7 +4,7 @@ use Prim.Native.Nat.{ℕ}
 use borrow.Author.Tests.{eqb-true, eqb-false, eq-eqb, ne-eqb}
 use lib.Dec.{eqb}
 use Rattle.rules.proofs.Facts.{either-way}
-use Rattle.method.specs.World.{upd}
+use Rattle.method.specs.Update.{upd}
 
 module _ {X : Type 0} (f : ℕ → X) (i : ℕ) (x : X) where
   pub upd-same : upd f i x i ≡ x

@@ -4,7 +4,8 @@ use mathlib.Core.List.{List, [], _∷_, _++_}
 use Prim.Native.Nat.{ℕ}
 use borrow.Author.Tests.{eq-eqb, ne-eqb}
 use Rattle.method.specs.declared.Call.{Call}
-use Rattle.method.specs.Watch.{answer, left, Agrees, Free, Begun, Done, Event, Begin, Point, End, Watcher, putPhase, pointed, watch, watched, Waits, Ends, Fits, Good}
+use Rattle.method.specs.OneWord.{answer, left, Agrees}
+use Rattle.method.specs.Watch.{Free, Begun, Done, Event, Begin, Point, End, Watcher, putPhase, pointed, watch, watched, Waits, Ends, Fits, Good}
 use Rattle.method.proofs.Upd.{upd-same, upd-other, upd-all, upd-id}
 
 -- a set that finds a changes the word to b and is told so; one that does not leaves it

@@ -1,5 +1,5 @@
 -- What a turn shows, read off the stations before it and its answer, and what a run shows. Assumes nothing.
-use mathlib.Core.Bool.{Bool, true, false, cond, _&&_}
+use mathlib.Core.Bool.{cond, _&&_}
 use mathlib.Core.List.{List, [], _∷_, _++_, map}
 use Prim.Native.Nat.{ℕ}
 use Rattle.card.specs.declared.Halves.{Halves}
@@ -9,15 +9,9 @@ use Rattle.method.specs.declared.Answer.{Answer}
 use Rattle.method.specs.declared.Answer.the-variants.{Idle, Going, Ended, Refused}
 use Rattle.method.specs.Record.{atRest, call}
 use Rattle.method.specs.Effect.{points}
+use Rattle.method.specs.Operation.{operates}
 use Rattle.method.specs.World.{World, WorldTurn, worldTurn}
 use Rattle.method.specs.Watch.{Event, Begin, Point, End}
-
--- a turn with this answer did an operation
-abbrev pub operates : Answer → Bool
-operates Idle = false
-operates Going = true
-operates (Ended result own) = true
-operates (Refused number) = false
 
 -- a station at rest that does an operation begins the offered call
 abbrev pub beginEvents : Place → WorldTurn → Answer → List Event

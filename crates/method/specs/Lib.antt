@@ -1,6 +1,9 @@
 pub mod Record
 pub mod Table
 pub mod Effect
+pub mod Operation
+pub mod Update
+pub mod OneWord
 pub mod World
 pub mod Watch
 pub mod Events

@@ -1,23 +1,10 @@
--- The words served one call at a time, and the watcher that follows a run's events: it holds the words, and how far each station's call is. Assumes nothing.
+-- The watcher that follows a run's events: it holds the words, and how far each station's call is. Assumes nothing.
 use mathlib.Core.Path.{_≡_}
-use mathlib.Core.Bool.{cond}
 use mathlib.Core.List.{List, [], _∷_}
 use Prim.Native.Nat.{ℕ}
-use lib.Dec.{eqb}
 use Rattle.method.specs.declared.Call.{Call}
-use Rattle.method.specs.World.{upd}
-
--- what a word that holds y answers to a call: a read its value, a set or swap whether it found a
-abbrev pub answer : ℕ → Call → ℕ
-answer y o = cond (eqb (o .kind) 0) y (cond (eqb y (o .a)) 1 0)
-
--- what such a call leaves in the word
-abbrev pub left : ℕ → Call → ℕ
-left y o = cond (eqb (o .kind) 0) y (cond (eqb y (o .a)) (o .b) y)
-
--- what a call hands back is the word's answer; what a swap hands back is not covered
-abbrev pub Agrees : Call → ℕ → ℕ → Type 0
-Agrees o y result = (o .kind ≡ 2 → ⊥) → result ≡ y
+use Rattle.method.specs.Update.{upd}
+use Rattle.method.specs.OneWord.{answer, left, Agrees}
 
 -- a station is in no call; in one of word z that has not had its point; in one that the word has answered y
 pub data Phase : Type 0 where

@@ -2,7 +2,6 @@
 -- Assumes nothing.
 use mathlib.Core.Bool.{cond}
 use Prim.Native.Nat.{ℕ}
-use lib.Dec.{eqb}
 use Rattle.card.specs.declared.Halves.{Halves}
 use Rattle.card.specs.declared.Claim.{Claim}
 use Rattle.card.specs.Register.{halves, claim}
@@ -11,10 +10,7 @@ use Rattle.method.specs.declared.Station.{Station}
 use Rattle.method.specs.declared.Answer.{Answer}
 use Rattle.method.specs.Record.{atRest, resting}
 use Rattle.method.specs.Table.{Access, row}
-
--- the function f, but x at i
-unfoldable pub upd : {X : Type 0} → (ℕ → X) → ℕ → X → ℕ → X
-upd f i x j = cond (eqb j i) x (f j)
+use Rattle.method.specs.Update.{upd}
 
 -- `word` is the word of a station's call
 pub record World : Type 0 where

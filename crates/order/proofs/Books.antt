@@ -13,8 +13,8 @@ use Rattle.method.specs.declared.Call.{Call}
 use Rattle.method.specs.declared.Answer.{Answer}
 use Rattle.method.specs.declared.Answer.the-variants.{Idle, Going, Ended, Refused}
 use Rattle.method.specs.Record.{atRest, call}
-use Rattle.method.specs.World.{upd}
-use Rattle.method.specs.Events.{operates}
+use Rattle.method.specs.Update.{upd}
+use Rattle.method.specs.Operation.{operates}
 use Rattle.method.proofs.Upd.{upd-same, upd-other, upd-all}
 use Rattle.bench.specs.declared.Bench.{Bench}
 use Rattle.bench.specs.Record.{stationAt}
@@ -26,7 +26,7 @@ use Rattle.run.specs.Book.{Book}
 use Rattle.run.specs.Book as Book
 use Rattle.run.specs.Run.{noted}
 use Rattle.run.proofs.Books as Rows
-use Rattle.order.specs.Log.{Log, enters, allEnter, ends, acts, logged}
+use Rattle.order.specs.Journal.{Journal, enters, allEnter, ends, acts, logged}
 use Rattle.order.proofs.Same.{opening, enter-all}
 
 -- a row of a book that holds a function of the log
@@ -44,7 +44,7 @@ written {n} {l} {f} j x y r h e =
           (λ i ne. getD-set-other l j i x 0 ne ∙ r .reads i);
     }
 
-pub record Matches (b : Book) (g : Log) : Type 0 where
+pub record Matches (b : Book) (g : Journal) : Type 0 where
   pub latest : Row 33 (b .latest) (g .latest)
   pub within : (j : ℕ) → g .latest j < 1025
   pub own : Row 1025 (b .own) (g .own)
@@ -52,7 +52,7 @@ pub record Matches (b : Book) (g : Log) : Type 0 where
   pub point : Row 1025 (b .point) (g .point)
   pub list : b .list ≡ g .list
 
-module _ {b : Book} {g : Log} (m : Matches b g) where
+module _ {b : Book} {g : Journal} (m : Matches b g) where
   enters-matches : (now j : ℕ) → Matches (Book.enters now j b) (enters now j g)
   unfolding enterCall
   enters-matches now j =
@@ -128,13 +128,13 @@ module _ {b : Book} {g : Log} (m : Matches b g) where
           list = m .list;
         }
 
-pub all-enter-matches : {b : Book} {g : Log} (now : ℕ) (js : List ℕ) → Matches b g → Matches (Book.allEnter now js b) (allEnter now js g)
+pub all-enter-matches : {b : Book} {g : Journal} (now : ℕ) (js : List ℕ) → Matches b g → Matches (Book.allEnter now js b) (allEnter now js g)
 unfolding Book.allEnter allEnter
 all-enter-matches now [] m = m
 all-enter-matches now (j ∷ js) m = all-enter-matches now js (enters-matches m now j)
 
 -- one turn for call e on offer: `own` is what a call that goes on has had then
-module _ {b : Book} {g : Log} (m : Matches b g) (table : List ℕ) (w : Bench) (now e own : ℕ) (u : Turn) (t : 1 ≤ now) (small : e < 1025) where
+module _ {b : Book} {g : Journal} (m : Matches b g) (table : List ℕ) (w : Bench) (now e own : ℕ) (u : Turn) (t : 1 ≤ now) (small : e < 1025) where
   abbrev i : ℕ
   i = u .station
 

@@ -1,5 +1,5 @@
 -- A bench is a world of the method that has one word, number 0, and a turn of the bench is a turn of that world, one line a place. Assumes nothing.
-use mathlib.Core.Path.{_≡_, refl, _∙_, sym, ap, subst, subst⁻¹}
+use mathlib.Core.Path.{_≡_, refl, _∙_, sym, ap, subst⁻¹}
 use mathlib.Core.Bool.{Bool, true, false, cond, not}
 use mathlib.Core.List.{List}
 use Prim.Native.Nat.{ℕ, zero, suc, _<_}
@@ -18,7 +18,8 @@ use Rattle.method.specs.declared.Answer.the-variants.{Idle, Going, Ended}
 use Rattle.method.specs.Record.{call, resting}
 use Rattle.method.specs.Table.{handed, goes, begun, grown, row}
 use Rattle.method.specs.Effect.{oneWord, points}
-use Rattle.method.specs.World.{World, Stepped, onWorld, upd, taking}
+use Rattle.method.specs.Update.{upd}
+use Rattle.method.specs.World.{World, Stepped, onWorld, taking}
 use Rattle.method.specs.World as World
 use Rattle.method.specs.Watch.{Event, Watcher, watching, watched, Good}
 use Rattle.method.specs.Events.{eventsOf}
@@ -153,6 +154,11 @@ row-shape At18 w i t kind a b s =
     (p .0, (p .1 .0, (length-set (w .r) (t .saw .pid) _ ∙ s .1 .1 .0, p .1 .1 .1)))
 row-shape At19 w i t kind a b s = put-shape w i (goes t At20) s
 row-shape At20 w i t kind a b s = put-shape w i (resting (t .c)) s
+
+pub turn-shape : {n : ℕ} (w : Bench) (u : Turn) → Shape n w → Shape n (turnBy w u .bench)
+turn-shape {n} w u s =
+    let i = u .station in
+    by-turn (λ x. Shape n (x .bench)) w u (λ number. s) (λ k. row-shape (stationAt w i .place) w i (stationAt w i) (u .kind) (u .a) (u .b) s)
 
 -- a turn with the outcome x: its events fit what was watched, and lead on to its bench
 pub record Follows (m : Watcher) (w : Bench) (u : Turn) (x : Turned) : Type 0 where

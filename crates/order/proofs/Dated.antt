@@ -7,9 +7,10 @@ use native.Mathlib.Omega.{arith}
 use native.Mathlib.Decide.{decLe}
 use borrow.Author.Tests.{eq-eqb, ne-eqb}
 use lib.Dec.{eqb}
-use Rattle.method.specs.World.{upd}
+use Rattle.method.specs.Update.{upd}
 use Rattle.method.proofs.Upd.{upd-same, upd-other, upd-all}
-use Rattle.order.specs.Accepted.{times, Pairs}
+use Rattle.order.specs.Accepted.{times}
+use Rattle.order.specs.Demand.{Pairs}
 use Rattle.order.proofs.Lists.{times-more, pairs-more}
 
 -- till turn `now`

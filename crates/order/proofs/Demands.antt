@@ -1,30 +1,29 @@
--- Demand 3 from the invariant, and for every run. Assumes nothing.
-use mathlib.Core.Path.{_≡_, refl, _∙_, ap, subst⁻¹}
+-- Demand 3 from the invariant. Assumes nothing.
+use mathlib.Core.Path.{_≡_, refl, _∙_, ap, subst}
 use mathlib.Core.Bool.{Bool, true, false, _&&_}
-use mathlib.Core.List.{List, [], _∷_}
 use Prim.Native.Nat.{ℕ, _+_, _≤_, _<_}
 use native.Mathlib.Omega.{arith}
 use native.Mathlib.Decide.{decLe}
-use lib.ListN.{getD}
+use lib.ListN.{length, getD, take}
 use Rattle.method.specs.Record.{atRest, call}
-use Rattle.method.specs.Events.{operates}
+use Rattle.method.specs.OneWord.{Agrees}
+use Rattle.method.specs.Operation.{operates}
 use Rattle.method.proofs.Upd.{upd-other}
 use Rattle.method.proofs.Inv.{values}
 use Rattle.bench.specs.declared.Bench.{Bench}
 use Rattle.bench.specs.Record.{stationAt}
 use Rattle.bench.specs.Promise.{Turn, turnBy, after}
-use Rattle.run.proofs.Start.{fresh-bench}
-use Rattle.order.specs.Log.{Log, noCalls, logged, logFrom}
-use Rattle.order.specs.Accepted.{times, Accepted}
-use Rattle.order.specs.Demand.{Demand3, EveryRun}
-use Rattle.order.proofs.Lists.{at-in, pairs-map, pairs-at}
+use Rattle.order.specs.Journal.{Journal, logIn, logged}
+use Rattle.order.specs.Accepted.{times, Fits, Accepted}
+use Rattle.order.specs.Demand.{Pairs, Demand3}
+use Rattle.order.proofs.Lists.{at-in, each-map, pairs-map, pairs-at, times-take, each-take, answered-at}
 use Rattle.order.proofs.Dated.{Dated, has-point, is-listed}
 use Rattle.order.proofs.Same.{opening, opens}
-use Rattle.order.proofs.Turns.{Held, turn-held, fresh-held}
+use Rattle.order.proofs.Turns.{Held}
 
-module _ {x now : ℕ} {w : Bench} {g : Log} (h : Held x now w g) where
+module _ {x now : ℕ} {w : Bench} {g : Journal} (h′ : Held x now w g) where
   abbrev k : Dated now (g .first) (g .point) (g .last) (g .list)
-  k = h .kept .dated
+  k = h′ .kept .dated
 
   once : (c : ℕ) → times c (g .list) ≤ 1
   once c = elim (decLe 1 (times c (g .list))) [
@@ -32,29 +31,37 @@ module _ {x now : ℕ} {w : Bench} {g : Log} (h : Held x now w g) where
     | no l ↦ omega arith
   ]
 
-  accepted : Accepted x g (g .list)
-  accepted =
+  -- no call stands after one that began after it had ended
+  in-time : Pairs (λ c d. 1 ≤ g .last d → g .first c ≤ g .last d) (g .list)
+  in-time =
+      pairs-map (g .list)
+      (λ c d i j p l.
+      let a = k .after c (has-point k c i) in
+      let b = k .before d l in
+      omega arith)
+      (k .rising)
+
+  fits : (i : ℕ) → i < length (g .list) → Fits x (logIn g) (take i (g .list)) (getD (g .list) i 0)
+  fits i h =
+      let c = getD (g .list) i 0 in
+      let new : times c (take i (g .list)) ≡ 0 = omega (arith, times-take (g .list) i h, once c) in
       record {
-        every = λ c l. is-listed k c (k .before c l .0);
-        once = once;
-        begun = λ c l. k .after c (has-point k c l) .0;
-        order =
-            pairs-map (g .list)
-            (λ c d i j p l.
-            let a = k .after c (has-point k c i) in
-            let b = k .before d l in
-            omega arith)
-            (k .rising);
-        answers = h .kept .answers;
+        begun = k .after c (has-point k c (at-in (g .list) i h)) .0;
+        new = new;
+        order = λ l. each-map (take i (g .list)) (λ d p f. f l) (each-take (λ c d. 1 ≤ g .last d → g .first c ≤ g .last d) (g .list) i h in-time);
+        answers = λ l. subst (λ y. Agrees (g .call c) y (g .result c)) (answered-at (g .call) (g .list) x i h new) (h′ .kept .answers c l);
       }
 
-  pub demand : Demand3 x (w .v .second) g (g .list)
+  accepted : Accepted x (logIn g) (g .list)
+  accepted = record { fits = fits; every = λ c l. omega (arith, is-listed k c (k .before c l .0)) }
+
+  pub demand : Demand3 x (w .v .second) (logIn g) (g .list)
   demand =
       record {
-        took = h .owns .took;
-        tenth = λ c b. h .owns .few c;
+        took = h′ .owns .took;
+        tenth = λ c b. h′ .owns .few c;
         accepted = accepted;
-        word = h .kept .word ∙ values (h .inv) 0;
+        word = h′ .kept .word ∙ values (h′ .inv) 0;
         listed = k .listed;
         after = k .after;
         before = k .before;
@@ -66,7 +73,7 @@ module _ {x now : ℕ} {w : Bench} {g : Log} (h : Held x now w g) where
             elim (decLe (i + 1) j) [
               | yes s ↦ omega arith
               | no s ↦ elim (decLe (j + 1) i) [
-                | yes r ↦ absurd (let f = pairs-at (λ c d. 1 ≤ g .last d → g .first c ≤ g .last d) (g .list) j i (omega arith) p (accepted .order) l in omega arith)
+                | yes r ↦ absurd (let f = pairs-at (λ c d. 1 ≤ g .last d → g .first c ≤ g .last d) (g .list) j i (omega arith) p in-time l in omega arith)
                 | no r ↦
                     absurd
                     (let same : j ≡ i = omega arith in
@@ -79,7 +86,7 @@ module _ {x now : ℕ} {w : Bench} {g : Log} (h : Held x now w g) where
       }
 
 -- only the call on offer begins
-pub others-wait : (w : Bench) (now c : ℕ) (u : Turn) (g : Log) (d : ℕ) → (d ≡ c → ⊥) → logged w now c u (turnBy w u .answer) g .first d ≡ g .first d
+pub others-wait : (w : Bench) (now c : ℕ) (u : Turn) (g : Journal) (d : ℕ) → (d ≡ c → ⊥) → logged w now c u (turnBy w u .answer) g .first d ≡ g .first d
 others-wait w now c u g d ne =
     let y = turnBy w u .answer in
     ap (λ (f : ℕ → ℕ). f d) (opens w now c u y g .first)
@@ -88,18 +95,3 @@ others-wait w now c u g d ne =
     either : (b : Bool) → opening b now c (u .station) (call (u .kind) (u .a) (u .b)) g .first d ≡ g .first d
     either true = upd-other (g .first) c now d ne
     either false = refl
-
--- calls are numbered by the turn in which they begin, so those of turns to come have not begun
-pub run-demand : {x k : ℕ} {w : Bench} {g : Log} (us : List Turn) → Held x k w g → ((c : ℕ) → k < c → g .first c ≡ 0)
-    → Demand3 x (after w us .v .second) (logFrom k w g us) (logFrom k w g us .list)
-unfolding after logFrom
-run-demand [] h wait = demand h
-run-demand {x} {k} {w} {g} (u ∷ us) h wait =
-    run-demand us (turn-held h (k + 1) u (λ o r. (omega arith, wait (k + 1) (omega arith))))
-    (λ c l. others-wait w (k + 1) (k + 1) u g c (λ e. omega arith) ∙ wait c (omega arith))
-
-pub every-run : EveryRun
-unfolding EveryRun
-every-run x n low high us =
-    subst⁻¹ (λ m. Demand3 x (after (m .bench) us .v .second) (logFrom 0 (m .bench) noCalls us) (logFrom 0 (m .bench) noCalls us .list)) (fresh-bench x n low high)
-    (run-demand us (fresh-held x n low high) (λ c l. refl))

@@ -6,12 +6,11 @@ use mathlib.Core.List.{List, [], _∷_}
 use Prim.Native.Nat.{ℕ, suc, _+_, _≤_, _<_}
 use native.Mathlib.Omega.{arith}
 use borrow.Author.Tests.{eq-eqb, ne-eqb}
-use lib.Dec.{eqb}
 use lib.ListN.{length, getD, set}
 use Rattle.rules.proofs.Facts.{and-left, and-right}
 use Rattle.method.specs.declared.Answer.{Answer}
 use Rattle.method.specs.Record.{atRest, call, told}
-use Rattle.method.specs.Events.{operates}
+use Rattle.method.specs.Operation.{operates}
 use Rattle.bench.specs.declared.Bench.{Bench}
 use Rattle.bench.specs.Record.{blank, stationAt}
 use Rattle.bench.specs.Turn.{freshOf}
@@ -26,18 +25,21 @@ use Rattle.run.specs.Drive.{runOfFile}
 use Rattle.run.proofs.Steps.{mine-after, acting}
 use Rattle.run.proofs.Files.{reads-well}
 use Rattle.run.proofs.Start.{fresh-bench, how-many, first-call}
-use Rattle.order.specs.Log.{Log, noCalls}
+use Rattle.order.specs.Journal.{Journal, logIn, noCalls, journalStep, journalRun, journalOfFile}
+use Rattle.order.specs.Steps.{Step, effects}
 use Rattle.order.specs.Demand.{Demand3}
-use Rattle.order.specs.Files.{logStep, logRun, logOfFile, EveryFile}
+use Rattle.order.specs.Files.{stepsRun, stepsOfFile, EveryFile}
 use Rattle.order.proofs.Bridge.{everywhere}
 use Rattle.order.proofs.Same.{opens}
 use Rattle.order.proofs.Turns.{Held, counts, own-turn, same-size, turn-held, turn-had, fresh-held}
-use Rattle.order.proofs.Demands.{demand}
+use Rattle.order.proofs.Pins.{Pins, no-pins}
+use Rattle.order.proofs.Runs.{Ahead, all-ahead, next-ahead, next-pins, ran, ran-pinned, ran-demand}
 use Rattle.order.proofs.Books.{Matches, noted-matches, noted-upcoming}
 use Rattle.order.proofs.Plans.{Planned, not-begun, planned, recast}
 
-pub record Filed (x n : ℕ) (table : List ℕ) (s : Run) (g : Log) : Type 0 where
+pub record Filed (x n : ℕ) (table : List ℕ) (steps : List Step) (s : Run) (g : Journal) : Type 0 where
   pub held : Held x (s .turns) (s .bench) g
+  pub pins : Pins steps (s .turns) g
   pub size : s .bench .n ≡ n
   pub matches : Matches (s .book) g
   pub plan : Planned table (s .book .upcoming) (g .station) (g .call) (g .first)
@@ -55,7 +57,7 @@ same-next f false true e l up = refl
 same-next f true false e l up = refl
 same-next f false false e l up = refl
 
-module _ {x n : ℕ} {table : List ℕ} {s : Run} {g : Log} (h : Filed x n table s g) (calls : records table ≤ 1024) (i : ℕ) (low : 1 ≤ i) (high : i ≤ n) where
+module _ {x n : ℕ} {table : List ℕ} {steps : List Step} {s : Run} {g : Journal} (h : Filed x n table steps s g) (calls : records table ≤ 1024) (i : ℕ) (low : 1 ≤ i) (high : i ≤ n) where
   abbrev w : Bench
   w = s .bench
 
@@ -83,13 +85,14 @@ module _ {x n : ℕ} {table : List ℕ} {s : Run} {g : Log} (h : Filed x n table
   small : e < 1025
   small = ⊎-elim (λ z. omega arith) (λ m. omega (arith, m .1)) (h .plan .mine i inside)
 
-  steps : Filed x n table (stepRun table s i) (logStep table s g i)
+  files-on : {rest : List Step} → Ahead steps (s .turns) (record { bench = w; turn = u; offer = e } ∷ rest) → Filed x n table steps (stepRun table s i) (journalStep table s g i)
   unfolding after
-  steps =
+  files-on a =
       let d = stationAt w i .own in
       let opened = opens w (s .turns + 1) e u y g in
       record {
         held = turn-held (h .held) e u free;
+        pins = next-pins a (h .held) (h .pins) free;
         size = same-size (h .held) u ∙ h .size;
         matches =
             noted-matches (h .matches) table w (s .turns + 1) e (stationAt (turnBy w u .bench) i .own) u (omega arith) small y inside
@@ -109,20 +112,26 @@ module _ {x n : ℕ} {table : List ℕ} {s : Run} {g : Log} (h : Filed x n table
             (some o r, offers-it table rests e r (some o r))));
       }
 
--- along the run
-filed-run : {x n : ℕ} {table : List ℕ} {s : Run} {g : Log} (is : List ℕ) → records table ≤ 1024
-    → ((k : ℕ) → k < length is → (1 ≤ getD is k 0) × (getD is k 0 ≤ n)) → Filed x n table s g → Filed x n table (runFrom table s is) (logRun table s g is)
-unfolding runFrom logRun
-filed-run [] calls good h = h
-filed-run (i ∷ is) calls good h =
+-- along the run, to its end
+pub record FiledRun (x n : ℕ) (table : List ℕ) (steps : List Step) (s : Run) (g : Journal) : Type 0 where
+  pub filed : Filed x n table steps s g
+  pub whole : Ahead steps (s .turns) []
+
+filed-run : {x n : ℕ} {table : List ℕ} {s : Run} {g : Journal} (steps : List Step) (is : List ℕ) → records table ≤ 1024
+    → ((k : ℕ) → k < length is → (1 ≤ getD is k 0) × (getD is k 0 ≤ n)) → Ahead steps (s .turns) (stepsRun table s is) → Filed x n table steps s g
+    → FiledRun x n table steps (runFrom table s is) (journalRun table s g is)
+unfolding runFrom stepsRun journalRun
+filed-run steps [] calls good a h = record { filed = h; whole = a }
+filed-run steps (i ∷ is) calls good a h =
     let t = good 0 (omega arith) in
-    filed-run is calls (λ k l. good (suc k) (omega arith)) (steps h calls i (t .0) (t .1))
+    filed-run steps is calls (λ k l. good (suc k) (omega arith)) (next-ahead a) (files-on h calls i (t .0) (t .1) a)
 
 -- from a fresh bench and an empty book
-filed-start : (x n : ℕ) (table : List ℕ) → 1 ≤ n → n ≤ 32 → Filed x n table (record { bench = blank x n; turns = 0; book = emptyBook table }) noCalls
-filed-start x n table low high =
+filed-start : (x n : ℕ) (table : List ℕ) (steps : List Step) → 1 ≤ n → n ≤ 32 → Filed x n table steps (record { bench = blank x n; turns = 0; book = emptyBook table }) noCalls
+filed-start x n table steps low high =
     record {
       held = fresh-held x n low high;
+      pins = no-pins steps;
       size = refl;
       matches =
           record {
@@ -142,19 +151,37 @@ filed-start x n table low high =
           };
     }
 
-pub every-file : EveryFile
-unfolding EveryFile
-every-file file well =
+-- the run of a file that reads well, with its journal
+pub every-file-journal : (file : List ℕ) → readOf file .refused ≡ 0
+    → FiledRun (readOf file .x) (readOf file .n) (tableOf file) (stepsOfFile file) (runOfFile file) (journalOfFile file)
+every-file-journal file well =
     let r = reads-well file well in
     let x = readOf file .x in
     let n = readOf file .n in
     let table = tableOf file in
-    let start : Filed x n table (record { bench = freshOf x n .bench; turns = 0; book = emptyBook table }) noCalls =
-    subst⁻¹ (λ m. Filed x n table (record { bench = m .bench; turns = 0; book = emptyBook table }) noCalls) (fresh-bench x n (r .some) (r .few))
-    (filed-start x n table (r .some) (r .few)) in
-    let f = filed-run (turnsOf file) (r .good .calls) (r .good .turn) start in
+    let steps = stepsOfFile file in
+    let start : Filed x n table steps (record { bench = freshOf x n .bench; turns = 0; book = emptyBook table }) noCalls =
+    subst⁻¹ (λ m. Filed x n table steps (record { bench = m .bench; turns = 0; book = emptyBook table }) noCalls) (fresh-bench x n (r .some) (r .few))
+    (filed-start x n table steps (r .some) (r .few)) in
+    filed-run steps (turnsOf file) (r .good .calls) (r .good .turn) (all-ahead steps) start
+
+pub every-file : EveryFile
+unfolding EveryFile
+every-file file well =
+    let r = every-file-journal file well in
+    let f = r .filed in
+    let steps = stepsOfFile file in
+    let g = journalOfFile file in
+    let done = ran (r .whole) (f .held) (f .pins) in
+    let same : runOfFile file .book .list ≡ effects steps (length steps) = f .matches .list ∙ done .pins .list in
     record {
-      demand = subst⁻¹ (λ l. Demand3 x (runOfFile file .bench .v .second) (logOfFile file) l) (f .matches .list) (demand (f .held));
+      run =
+          record {
+            log = logIn g;
+            pinned = ran-pinned done;
+            demand = subst⁻¹ (λ l. Demand3 (readOf file .x) (runOfFile file .bench .v .second) (logIn g) l) same (ran-demand done);
+          };
+      inOrder = same;
       calls = f .plan .calls;
       booked = λ c. record { own = f .matches .own .reads c; told = f .matches .told .reads c; point = f .matches .point .reads c };
     }

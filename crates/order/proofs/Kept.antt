@@ -1,14 +1,15 @@
 -- The invariant between what is watched of a run and the log of its calls, and that each event keeps it. Assumes nothing.
-use mathlib.Core.Path.{_≡_, refl, _∙_, sym, ap, subst, subst⁻¹}
+use mathlib.Core.Path.{_≡_, refl, _∙_, sym, ap, subst⁻¹}
 use Prim.Native.Nat.{ℕ, _+_, _≤_}
 use native.Mathlib.Omega.{arith}
 use Rattle.method.specs.declared.Call.{Call}
-use Rattle.method.specs.World.{upd}
-use Rattle.method.specs.Watch.{answer, left, Agrees, Phase, Free, Begun, Done, Watcher, putPhase, pointed}
+use Rattle.method.specs.Update.{upd}
+use Rattle.method.specs.OneWord.{answer, left, Agrees}
+use Rattle.method.specs.Watch.{Phase, Free, Begun, Done, Watcher, putPhase, pointed}
 use Rattle.method.proofs.Upd.{upd-same, upd-other, upd-all}
-use Rattle.order.specs.Log.{Log, begins, works, lists, ends}
-use Rattle.order.specs.Accepted.{times, answered, served}
-use Rattle.order.proofs.Lists.{served-same, answered-same, served-more, answered-other, answered-last}
+use Rattle.order.specs.Journal.{Journal, begins, works, lists, ends}
+use Rattle.order.specs.Accepted.{times, served}
+use Rattle.order.proofs.Lists.{answered, served-same, answered-same, served-more, answered-other, answered-last}
 use Rattle.order.proofs.Dated.{Dated, unlisted, no-point, no-end, later, begins-now, points-now, ends-now}
 
 -- what is known of one call, with what the word that starts as x answers it
@@ -21,7 +22,7 @@ pub record Entry : Type 0 where
   pub own : ℕ
   pub said : ℕ
 
-abbrev pub entryOf : ℕ → Log → ℕ → Entry
+abbrev pub entryOf : ℕ → Journal → ℕ → Entry
 entryOf x g c =
     record {
       station = g .station c;
@@ -89,17 +90,17 @@ in-call (Begun z o) busy h = h .0 .is
 in-call (Done z o y) busy h = h .0 .is
 
 -- till turn `now`, from the word x, where each station has had so many own turns in its call
-pub record Kept (x now : ℕ) (owns : ℕ → ℕ) (m : Watcher) (g : Log) : Type 0 where
+pub record Kept (x now : ℕ) (owns : ℕ → ℕ) (m : Watcher) (g : Journal) : Type 0 where
   pub dated : Dated now (g .first) (g .point) (g .last) (g .list)
   pub word : served x (g .call) (g .list) ≡ m .words 0
   pub answers : (c : ℕ) → 1 ≤ g .last c → Agrees (g .call c) (answered x (g .call) (g .list) c) (g .result c)
   pub stands : (i : ℕ) → Stands i (owns i) (g .latest i) (entryOf x g (g .latest i)) (m .phase i)
 
 -- a call that has not begun
-abbrev pub Unbegun : Log → ℕ → Type 0
+abbrev pub Unbegun : Journal → ℕ → Type 0
 Unbegun g c = (1 ≤ c) × (g .first c ≡ 0)
 
-module _ {x now : ℕ} {owns : ℕ → ℕ} {m : Watcher} {g : Log} (k : Kept x now owns m g) where
+module _ {x now : ℕ} {owns : ℕ → ℕ} {m : Watcher} {g : Journal} (k : Kept x now owns m g) where
   pub no-end-yet : (c : ℕ) → Unbegun g c → g .last c ≡ 0
   no-end-yet c u = no-end (k .dated) c (no-point (k .dated) c (u .1))
 
@@ -123,7 +124,7 @@ module _ {x now : ℕ} {owns : ℕ → ℕ} {m : Watcher} {g : Log} (k : Kept x 
         record {
           some = u .0;
           mine = upd-same (g .station) c i;
-          begun = rw (upd-same (g .first) c now) t;
+          begun = subst⁻¹ (λ n. 1 ≤ n) (upd-same (g .first) c now) t;
           going = no-end-yet c u;
           turns = upd-same (g .own) c 0 ∙ sym none;
         }

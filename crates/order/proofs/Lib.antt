@@ -3,10 +3,16 @@ pub mod Lists
 pub mod Dated
 pub mod Kept
 pub mod Events
+pub mod Entered
 pub mod Owns
 pub mod Same
 pub mod Turns
+pub mod Decided
+pub mod Parts
+pub mod Pins
 pub mod Demands
+pub mod Runs
+pub mod WaitFree
 pub mod Books
 pub mod Plans
 pub mod Files

@@ -6,11 +6,17 @@ use Prim.Native.Nat.{ℕ, zero, suc, _+_, _≤_, _<_}
 use native.Mathlib.Omega.{arith}
 use borrow.Author.Tests.{eq-eqb, ne-eqb}
 use lib.Dec.{eqb}
-use lib.ListN.{length, getD}
+use lib.ListN.{length, getD, take}
 use Rattle.rules.proofs.Facts.{either-way}
 use Rattle.method.specs.declared.Call.{Call}
-use Rattle.method.specs.Watch.{answer, left}
-use Rattle.order.specs.Accepted.{times, Each, Pairs, answered, served}
+use Rattle.method.specs.OneWord.{answer, left}
+use Rattle.order.specs.Accepted.{times, Each, served}
+use Rattle.order.specs.Demand.{Pairs}
+
+-- what a word that holds x at first answers to call c, where it serves the list's calls one at a time
+unfoldable pub answered : ℕ → (ℕ → Call) → List ℕ → ℕ → ℕ
+answered x call [] c = 0
+answered x call (d ∷ ds) c = cond (eqb c d) (answer x (call d)) (answered (left x (call d)) call ds c)
 
 pub times-more : (c d : ℕ) (l : List ℕ) → times c (l ++ (d ∷ [])) ≡ times c l + cond (eqb c d) 1 0
 unfolding times
@@ -45,7 +51,7 @@ pairs-more (d ∷ l) c f q h = (
   pairs-more l c (λ e g i j. f e g (others-in e d l i) (others-in g d l j)) (λ e i. q e (others-in e d l i)) (h .1),
 )
 
-each-map : {P Q : ℕ → Type 0} (l : List ℕ) → ((d : ℕ) → 1 ≤ times d l → P d → Q d) → Each P l → Each Q l
+pub each-map : {P Q : ℕ → Type 0} (l : List ℕ) → ((d : ℕ) → 1 ≤ times d l → P d → Q d) → Each P l → Each Q l
 unfolding Each
 each-map [] f h = tt
 each-map (d ∷ l) f h = (f d (first-in d l) (h .0), each-map l (λ e i. f e (others-in e d l i)) (h .1))
@@ -69,6 +75,30 @@ pairs-at R [] i j g h p = absurd (omega arith)
 pairs-at R (c ∷ l) i zero g h p = absurd (omega arith)
 pairs-at R (c ∷ l) zero (suc j) g h p = each-at (R c) l j (omega arith) (p .0)
 pairs-at R (c ∷ l) (suc i) (suc j) g h p = pairs-at R l i j (omega arith) (omega arith) (p .1)
+
+-- a place in the list, and the calls before it
+pub times-take : (l : List ℕ) (i : ℕ) → i < length l → times (getD l i 0) (take i l) < times (getD l i 0) l
+unfolding times
+times-take [] i h = absurd (omega arith)
+times-take (c ∷ l) zero h = first-in c l
+times-take (c ∷ l) (suc i) h = let r = times-take l i (omega arith) in omega arith
+
+pub each-take : (R : ℕ → ℕ → Type 0) (l : List ℕ) (i : ℕ) → i < length l → Pairs R l → Each (λ d. R d (getD l i 0)) (take i l)
+unfolding Pairs Each
+each-take R [] i h p = absurd (omega arith)
+each-take R (c ∷ l) zero h p = tt
+each-take R (c ∷ l) (suc i) h p = (each-at (R c) l i (omega arith) (p .0), each-take R l i (omega arith) (p .1))
+
+pub answered-at : (f : ℕ → Call) (l : List ℕ) (x i : ℕ) → i < length l → times (getD l i 0) (take i l) ≡ 0
+    → answered x f l (getD l i 0) ≡ answer (served x f (take i l)) (f (getD l i 0))
+unfolding answered served times
+answered-at f [] x i h e = absurd (omega arith)
+answered-at f (c ∷ l) x zero h e = rw (eq-eqb c c refl)
+answered-at f (c ∷ l) x (suc i) h e =
+    let d = getD l i 0 in
+    either-way (eqb d c)
+    (λ t. absurd (let z : 1 + times d (take i l) ≡ 0 = rw t at e in omega arith))
+    (λ o. rw o (answered-at f l (left x (f c)) i (omega arith) (omega (arith, e))))
 
 -- the word depends on listed calls alone
 module _ (f h : ℕ → Call) where

@@ -11,13 +11,13 @@ use lib.Seq.{getD-set-same, getD-set-other}
 use Rattle.rules.proofs.Facts.{either-way}
 use Rattle.method.specs.declared.Call.{Call}
 use Rattle.method.specs.Record.{call}
-use Rattle.method.specs.World.{upd}
+use Rattle.method.specs.Update.{upd}
 use Rattle.method.proofs.Upd.{upd-same, upd-other, upd-all}
 use Rattle.runfile.specs.First.{firstFrom}
 use Rattle.runfile.specs.Layout.{records, callOf}
 use Rattle.run.specs.Calls.{madeBy, callAfter}
 use Rattle.run.proofs.Steps.{mine-after}
-use Rattle.order.specs.Log.{Log}
+use Rattle.order.specs.Journal.{Journal}
 use Rattle.order.specs.Files.{InTable}
 use Rattle.order.proofs.Same.{opening}
 
@@ -100,7 +100,7 @@ module _ {table up : List ℕ} {station : ℕ → ℕ} {what : ℕ → Call} {fi
         }
 
 -- after a turn in which that call began, or none
-pub planned : {table up : List ℕ} (g : Log) → Planned table up (g .station) (g .call) (g .first) → (i : ℕ) → i < 33 → (begun : Bool) (now : ℕ) (o : Call)
+pub planned : {table up : List ℕ} (g : Journal) → Planned table up (g .station) (g .call) (g .first) → (i : ℕ) → i < 33 → (begun : Bool) (now : ℕ) (o : Call)
     → (begun ≡ true → (1 ≤ getD up i 0) × (o ≡ call (callOf table (getD up i 0) .kind) (callOf table (getD up i 0) .a) (callOf table (getD up i 0) .b)))
     → let g′ = opening begun now (getD up i 0) i o g in
     Planned table (cond begun (set up i (callAfter table i (getD up i 0))) up) (g′ .station) (g′ .call) (g′ .first)

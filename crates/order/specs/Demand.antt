@@ -1,20 +1,30 @@
 -- Demand 3 over runs of the step table: every run behaves as one word served one call at a time. Assumes nothing.
-use mathlib.Core.Bool.{cond}
+use mathlib.Core.Bool.{true, false, cond}
 use mathlib.Core.Path.{_≡_}
-use mathlib.Core.Logic.{_⊎_}
-use mathlib.Core.List.{List}
+use mathlib.Core.List.{List, [], _∷_}
 use Prim.Native.Nat.{ℕ, _≤_, _<_}
 use lib.Dec.{eqb}
 use lib.ListN.{length, getD}
+use Rattle.method.specs.Record.{atRest}
+use Rattle.method.specs.Operation.{operates}
+use Rattle.bench.specs.Record.{stationAt}
+use Rattle.reach.specs.Step.{badOffer}
 use Rattle.bench.specs.Turn.{freshOf}
-use Rattle.bench.specs.Promise.{Turn, after}
-use Rattle.order.specs.Log.{Log, logOf}
-use Rattle.order.specs.Accepted.{times, Pairs, served, Accepted}
+use Rattle.bench.specs.Promise.{Turn, turnBy, after, FinishingTurns}
+use Rattle.order.specs.Log.{Log}
+use Rattle.order.specs.Steps.{Step, stepsFrom, effects}
+use Rattle.order.specs.Accepted.{times, Each, served, Accepted}
+use Rattle.order.specs.Pinned.{Pinned}
+
+-- of each call in a list and each that stands after it
+unfoldable pub Pairs : (ℕ → ℕ → Type 0) → List ℕ → Type 0
+Pairs R [] = Unit {0}
+Pairs R (c ∷ cs) = Each (R c) cs × Pairs R cs
 
 -- x is the starting value, y is V's value at the end, g what is known of the calls, and the list is the one that is promised
 pub record Demand3 (x y : ℕ) (g : Log) (list : List ℕ) : Type 0 where
   -- every ended call took 1, 8 or 10 turns of its own station
-  pub took : (c : ℕ) → 1 ≤ g .last c → (g .own c ≡ 1) ⊎ ((g .own c ≡ 8) ⊎ (g .own c ≡ 10))
+  pub took : (c : ℕ) → 1 ≤ g .last c → FinishingTurns (g .own c)
   -- a call begun has ended by its station's tenth turn in it
   pub tenth : (c : ℕ) → 1 ≤ g .first c → g .last c ≡ 0 → g .own c ≤ 9
   -- every ended call is listed once, no call twice, none that has not begun; and the word served in list order gives each its answer
@@ -31,8 +41,23 @@ pub record Demand3 (x y : ℕ) (g : Log) (list : List ℕ) : Type 0 where
   -- of two listed calls, one that ended before the other began stands before it
   pub order : (i j : ℕ) → i < length list → j < length list → 1 ≤ g .last (getD list i 0) → g .last (getD list i 0) < g .first (getD list j 0) → i < j
 
--- from a fresh bench, with any turns and any offers, refused ones among them
+-- what is known of the calls of a run is pinned to its turns, and the list is as demanded
+pub record OneWordRun (x y : ℕ) (steps : List Step) (list : List ℕ) : Type 0 where
+  pub log : Log
+  pub pinned : Pinned steps (length steps) log
+  pub demand : Demand3 x y log list
+
+-- from a fresh bench, with any turns and any offers, refused ones among them: with the calls in order of effect
 unfoldable pub EveryRun : Type 0
 EveryRun =
     (x n : ℕ) → 1 ≤ n → n ≤ 32 → (us : List Turn)
-    → Demand3 x (after (freshOf x n .bench) us .v .second) (logOf x n us) (logOf x n us .list)
+    → let steps = stepsFrom 0 (freshOf x n .bench) us in
+    OneWordRun x (after (freshOf x n .bench) us .v .second) steps (effects steps (length steps))
+
+-- and no call waits for another station: a turn of a station in a call, with a good offer, does an operation
+unfoldable pub WaitFree : Type 0
+WaitFree =
+    (x n : ℕ) → 1 ≤ n → n ≤ 32 → (us : List Turn) (u : Turn)
+    → let w = after (freshOf x n .bench) us in
+    1 ≤ u .station → u .station ≤ n → badOffer (u .kind) (u .a) (u .b) ≡ false → atRest (stationAt w (u .station) .place) ≡ false
+    → operates (turnBy w u .answer) ≡ true

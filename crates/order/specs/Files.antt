@@ -4,34 +4,28 @@ use mathlib.Core.Path.{_≡_}
 use mathlib.Core.List.{List, [], _∷_}
 use Prim.Native.Nat.{ℕ, _+_, _≤_}
 use lib.Dec.{eqb}
-use lib.ListN.{getD}
+use lib.ListN.{length, getD}
 use Rattle.method.specs.declared.Call.{Call}
 use Rattle.method.specs.Record.{call}
 use Rattle.bench.specs.Turn.{freshOf}
-use Rattle.bench.specs.Promise.{turnBy}
 use Rattle.runfile.specs.Layout.{records, callOf}
 use Rattle.runfile.specs.Reading.{readOf, tableOf, turnsOf}
 use Rattle.run.specs.Book.{Book}
 use Rattle.run.specs.Run.{Run, given, emptyBook, stepRun}
 use Rattle.run.specs.Drive.{runOfFile}
-use Rattle.order.specs.Log.{Log, noCalls, logged}
-use Rattle.order.specs.Demand.{Demand3}
+use Rattle.order.specs.Log.{Log}
+use Rattle.order.specs.Steps.{Step, effects}
+use Rattle.order.specs.Demand.{OneWordRun}
 
--- one turn of station i: the station's next call is on offer
-abbrev pub logStep : List ℕ → Run → Log → ℕ → Log
-logStep table s g i =
-    let d = getD (s .book .upcoming) i 0 in
-    let u = given table s i in
-    logged (s .bench) (s .turns + 1) d u (turnBy (s .bench) u .answer) g
+-- the turns of a file's run, from any point of it: the station's next call is on offer
+unfoldable pub stepsRun : List ℕ → Run → List ℕ → List Step
+stepsRun table s [] = []
+stepsRun table s (i ∷ is) =
+    record { bench = s .bench; turn = given table s i; offer = getD (s .book .upcoming) i 0 } ∷ stepsRun table (stepRun table s i) is
 
--- turn by turn along the run
-unfoldable pub logRun : List ℕ → Run → Log → List ℕ → Log
-logRun table s g [] = g
-logRun table s g (i ∷ is) = logRun table (stepRun table s i) (logStep table s g i) is
-
-abbrev pub logOfFile : List ℕ → Log
-logOfFile file =
-    logRun (tableOf file) (record { bench = freshOf (readOf file .x) (readOf file .n) .bench; turns = 0; book = emptyBook (tableOf file) }) noCalls (turnsOf file)
+abbrev pub stepsOfFile : List ℕ → List Step
+stepsOfFile file =
+    stepsRun (tableOf file) (record { bench = freshOf (readOf file .x) (readOf file .n) .bench; turns = 0; book = emptyBook (tableOf file) }) (turnsOf file)
 
 -- the call o of a station is the table's of number c
 pub record InTable (table : List ℕ) (c station : ℕ) (o : Call) : Type 0 where
@@ -47,10 +41,12 @@ pub record Booked (b : Book) (g : Log) (c : ℕ) : Type 0 where
 
 pub record FileRun (file : List ℕ) : Type 0 where
   -- demand 3, of the very list that the report prints
-  pub demand : Demand3 (readOf file .x) (runOfFile file .bench .v .second) (logOfFile file) (runOfFile file .book .list)
+  pub run : OneWordRun (readOf file .x) (runOfFile file .bench .v .second) (stepsOfFile file) (runOfFile file .book .list)
+  -- which has the calls in order of effect
+  pub inOrder : runOfFile file .book .list ≡ effects (stepsOfFile file) (length (stepsOfFile file))
   -- a call that has begun is the table's of that number
-  pub calls : (c : ℕ) → 1 ≤ logOfFile file .first c → InTable (tableOf file) c (logOfFile file .station c) (logOfFile file .call c)
-  pub booked : (c : ℕ) → Booked (runOfFile file .book) (logOfFile file) c
+  pub calls : (c : ℕ) → 1 ≤ run .log .first c → InTable (tableOf file) c (run .log .station c) (run .log .call c)
+  pub booked : (c : ℕ) → Booked (runOfFile file .book) (run .log) c
 
 unfoldable pub EveryFile : Type 0
 EveryFile = (file : List ℕ) → readOf file .refused ≡ 0 → FileRun file

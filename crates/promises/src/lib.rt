@@ -2,7 +2,8 @@
 // They rest on the rooms' own proofs and assume nothing.
 ghost use Rattle.card.specs.Promise.{Card};
 ghost use Rattle.bench.specs.Promise.{RefusesExactly, KeptSound, OwnTurnsAreOperations};
-ghost use Rattle.order.specs.Demand.{EveryRun};
+ghost use Rattle.order.specs.Demand.{EveryRun, WaitFree};
+ghost use Rattle.order.specs.Decided.{LogDecided};
 ghost use Rattle.order.specs.Files.{EveryFile};
 ghost use Rattle.promises.specs.Runs.{RunsToCheck};
 ghost use Rattle.promises.specs.Facts.{SoundFacts};
@@ -49,7 +50,17 @@ pub fn every_run_is_one_word()
     ensures { λ r. ⌜ EveryRun ⌝ }
 {}
 
-// The same for every file that reads well, with its call numbers and the very list that the report prints.
+// The log that it speaks of is decided by the turns of the run: two logs that are pinned to them say the same.
+pub fn the_turns_decide_the_log()
+    ensures { λ r. ⌜ LogDecided ⌝ }
+{}
+
+// No call waits for another station: from a fresh bench, a turn of a station in a call does its operation, so that its tenth such turn ends it.
+pub fn no_call_waits()
+    ensures { λ r. ⌜ WaitFree ⌝ }
+{}
+
+// Demand 3 for every file that reads well, with its call numbers and the very list that the report prints.
 pub fn every_file_is_one_word()
     ensures { λ r. ⌜ EveryFile ⌝ }
 {}

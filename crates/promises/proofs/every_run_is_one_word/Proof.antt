@@ -1,4 +1,4 @@
-use Rattle.order.proofs.Demands.{every-run}
+use Rattle.order.proofs.Runs.{every-run}
 use Rattle.promises.proofs.every_run_is_one_word.Statement.{statement}
 use Rattle.promises.proofs.every_run_is_one_word.Tie as tie
 
