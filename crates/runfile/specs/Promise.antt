@@ -10,9 +10,22 @@ use Rattle.rules.specs.Refusal.{refusalOf, holdsAt, GivenExactly}
 use Rattle.rules.specs.Row.{Row, refusals}
 use Rattle.runfile.specs.declared.WriteAnswer.{WriteAnswer}
 use Rattle.runfile.specs.First.{firstOf}
-use Rattle.runfile.specs.Layout.{records}
+use Rattle.runfile.specs.declared.CallRecord.{CallRecord}
+use Rattle.runfile.specs.Layout.{callRecord, zeroByte, recordBytes, records}
 use Rattle.runfile.specs.Reading.{badCallAt, badTurnAt, trailerAt, tableBy, turnsBy, readRows, noRun, readOf, tableOf, turnsOf}
 use Rattle.runfile.specs.Writing.{writeRows, wrote, writeOf, Written}
+
+-- the numbers of a call fit their fields
+pub record Fitting (c : CallRecord) : Type 0 where
+  pub station : c .station < 256 ^ 2
+  pub kind : c .kind < 256 ^ 1
+  pub a : c .a < 256 ^ 4
+  pub b : c .b < 256 ^ 4
+
+-- the bytes of a call tell the call, and twelve bytes of which the fourth is zero are those of the call that they tell
+pub record CallsSpelled : Type 0 where
+  pub told : (c : CallRecord) → Fitting c → (callRecord (recordBytes c) ≡ c) × (zeroByte (recordBytes c) ≡ 0)
+  pub again : (s : List ℕ) → AllBytes s → length s ≡ 12 → zeroByte s ≡ 0 → recordBytes (callRecord s) ≡ s
 
 -- a file holds x, n, this table and these turns
 pub record Holds (file : List ℕ) (x n : ℕ) (table turns : List ℕ) : Type 0 where

@@ -1,5 +1,10 @@
 // What is proved of reading and writing together; each function stands for the promise that it ensures.
-ghost use Rattle.runfile.specs.Promise.{WrittenReadsBack, WritesOnlyOutput, ReadWritesBack, TrailerPointsBack, RefusedExactly, WriterSettled};
+ghost use Rattle.runfile.specs.Promise.{CallsSpelled, WrittenReadsBack, WritesOnlyOutput, ReadWritesBack, TrailerPointsBack, RefusedExactly, WriterSettled};
+
+// The bytes of a call tell the call, and are told by it.
+pub fn calls_are_spelled()
+    ensures { λ r. ⌜ CallsSpelled ⌝ }
+{}
 
 // What is read from a written file is what was written.
 pub fn written_reads_back()
