@@ -33,7 +33,7 @@ use Rattle.drafting.specs.Parse.{lastDraft, lacking, tableIn, turnsIn}
 use Rattle.drafting.proofs.Records.{good-call, call-before, call-last}
 
 -- what holds of a choice
-by-cond : {X : Type 0} (P : X → Type 0) (b : Bool) {x y : X} → (b ≡ true → P x) → (b ≡ false → P y) → P (cond b x y)
+pub by-cond : {X : Type 0} (P : X → Type 0) (b : Bool) {x y : X} → (b ≡ true → P x) → (b ≡ false → P y) → P (cond b x y)
 by-cond P true f g = f refl
 by-cond P false f g = g refl
 

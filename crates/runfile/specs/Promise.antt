@@ -12,7 +12,7 @@ use Rattle.runfile.specs.declared.WriteAnswer.{WriteAnswer}
 use Rattle.runfile.specs.First.{firstOf}
 use Rattle.runfile.specs.declared.CallRecord.{CallRecord}
 use Rattle.runfile.specs.Layout.{callRecord, zeroByte, recordBytes, records}
-use Rattle.runfile.specs.Reading.{badCallAt, badTurnAt, trailerAt, tableBy, turnsBy, readRows, noRun, readOf, tableOf, turnsOf}
+use Rattle.runfile.specs.Reading.{badCallAt, badTurnAt, trailerAt, tableBy, turnsBy, longest, readRows, noRun, readOf, tableOf, turnsOf}
 use Rattle.runfile.specs.Writing.{writeRows, wrote, writeOf, Written}
 
 -- the numbers of a call fit their fields
@@ -60,6 +60,10 @@ unfoldable pub ReadWritesBack : Type 0
 ReadWritesBack =
     (file out : List ℕ) (answer : WriteAnswer) (after : List ℕ) → AllBytes file → readOf file .refused ≡ 0 → length file ≤ length out
     → Written (readOf file .x) (readOf file .n) (tableOf file) (turnsOf file) out answer after → WrittenAs file out answer after
+
+-- 14 is never given to a buffer of as many bytes as the longest file has, 53,264
+unfoldable pub WriterEnough : Type 0
+WriterEnough = (n : ℕ) (table turns : List ℕ) (room : ℕ) → longest ≤ room → writeOf n table turns room .refused ≡ 14 → ⊥
 
 -- k is the number, counted from 1, of the first of m at which p holds
 pub record First (p : ℕ → Bool) (m k : ℕ) : Type 0 where

@@ -8,6 +8,7 @@ mod reading;
 mod writing;
 
 pub use layout::call_at;
+pub use promises::buffer_is_enough;
 pub use promises::calls_are_spelled;
 pub use promises::read_writes_back;
 pub use promises::refused_exactly;
