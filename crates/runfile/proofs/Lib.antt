@@ -4,5 +4,6 @@ pub mod Trailers
 pub mod Calls
 pub mod Writes
 pub mod Answers
+pub mod Bounds
 pub mod Trips
 pub mod Exact
