@@ -26,9 +26,10 @@ extern "C" {
 #endif
 
 /* The word that every function returns: bits 63 to 56 the refusal N, 0 for none; bits 55 to 32 its K; bits 31 to 0 the
- * number of bytes written, 0 where it is refused. Without a refusal K is 0. What was put in comes out
- * (stepbench::answers_come_apart): N is at most 14, K at most 40,960, and the length at most 153,635. Only a line number,
- * the K of stepbench_parse, may not fit, in a text of over 16,777,215 lines: it is told modulo 2^24. */
+ * number of bytes written, 0 where it is refused. Without a refusal K is 0. What was put in comes out, and this is proved with
+ * its bounds (stepbench::answers_come_apart): N is at most 14, K at most 40,960, and the length at most the room that is
+ * always enough, below. The K of stepbench_parse is a line number, of at most 16,777,215: a line further on is told as
+ * that one. */
 #define STEPBENCH_REFUSED(word) ((unsigned)((uint64_t)(word) >> 56))
 #define STEPBENCH_K(word) ((uint32_t)((uint64_t)(word) >> 32 & 0xffffff))
 #define STEPBENCH_LENGTH(word) ((size_t)((uint64_t)(word)&0xffffffff))
@@ -56,7 +57,7 @@ extern "C" {
 /* Bytes of `out` that are always enough: with them 14 is never given. */
 #define STEPBENCH_REPORT_ROOM 40960u /* sheet::buffer_is_enough */
 #define STEPBENCH_TEXT_ROOM 153635u  /* runtext::buffer_is_enough */
-#define STEPBENCH_FILE_ROOM 53264u   /* 16 + 40,960 + 12 x 1,024: the longest run file there is */
+#define STEPBENCH_FILE_ROOM 53264u   /* runfile::buffer_is_enough, drafting::buffer_is_enough: 16 + 40,960 + 12 x 1,024 */
 
 /* The report of a run file: a line for each call that took effect, in that order, and a last line. Text, with a newline
  * after each line and no zero byte at its end. Refused 1 to 8, 14. */
@@ -66,7 +67,7 @@ uint64_t stepbench_report(const uint8_t *file, size_t file_len, uint8_t *out, si
 uint64_t stepbench_print(const uint8_t *file, size_t file_len, uint8_t *out, size_t out_len);
 
 /* A text as a run file, which then reads well. Its refusals are its own: N is what was expected, 1 to 10 of
- * docs/RUN-TEXT.md, and K the line where, from 1; or N is 14 and K is 0. */
+ * docs/RUN-TEXT.md, and K the line where, from 1, up to 16,777,215; or N is 14 and K is 0. */
 uint64_t stepbench_parse(const uint8_t *text, size_t text_len, uint8_t *out, size_t out_len);
 
 /* The run file of the starting value x, n stations, a call table (records of 12 bytes, as in the file) and turns (a

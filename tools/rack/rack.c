@@ -224,6 +224,22 @@ static void refused_texts(void) {
     one_text("start 4\nstations 2\nturns\n1 2\n3", 8, 5);
 }
 
+/* A text of so many empty lines, and then a word that is not expected. */
+static void late_text(size_t lines, uint32_t line) {
+    uint8_t *text = malloc(lines + 1);
+    if (!text) {
+        perror("malloc");
+        exit(2);
+    }
+    memset(text, '\n', lines);
+    text[lines] = 'x';
+    struct lent l = lend(STEPBENCH_FILE_ROOM);
+    uint64_t word = stepbench_parse(text, lines + 1, l.bytes, l.room);
+    check(word == refusal(1, line) && only(&l, 0), "a text refused after %zu lines: in line %u", lines, line);
+    free(l.whole);
+    free(text);
+}
+
 /* The widest words: the longest text there is, of a file that is as long as it can be. */
 static void longest(void) {
     static struct file file, text;
@@ -296,6 +312,10 @@ int main(int count, char **words) {
     damage(&file);
     refused_writes(&file);
     refused_texts();
+    late_text(16777213, 16777214);
+    late_text(16777214, 16777215);
+    late_text(16777215, 16777215);
+    late_text(17000000, 16777215);
     longest();
     puts(failures ? "FAILED" : "ok");
     return failures != 0;

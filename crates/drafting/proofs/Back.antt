@@ -11,24 +11,25 @@ use lib.Dec.{eqb}
 use lib.ListN.{length, getD, take}
 use lib.Seq.{take-suc, take-add, take-all, take-length}
 use Rattle.octets.specs.Bytes.{bytes, AllBytes}
+use Rattle.rules.specs.Limits.{stationLimit, callLimit, turnLimit}
 use Rattle.rules.proofs.Facts.{either-way}
 use Rattle.script.specs.Wrote.{cut}
 use Rattle.script.specs.Decimal.{decimal}
 use Rattle.script.specs.Kind.{readWord, setWord, swapWord, kindWord}
 use Rattle.runfile.specs.declared.CallRecord.{CallRecord}
-use Rattle.runfile.specs.Layout.{records, callBytes, callRecord, callOf, noCall}
+use Rattle.runfile.specs.Layout.{recordBytes, records, callBytes, callRecord, callOf, noCall}
+use Rattle.runfile.proofs.Calls.{same-record}
 use Rattle.runfile.proofs.Trailers.{bytes-part}
 use Rattle.runtext.specs.Letters.{newline, space, startWord, stationsWord, turnsWord}
 use Rattle.runtext.specs.Text.{headText, valuesText, callText, callsText, rowEnds, rowsText, turnsText, textOf}
-use Rattle.runtext.proofs.Records.{GoodCall}
+use Rattle.runtext.proofs.Records.{GoodCall, not-bad}
 use Rattle.runtext.proofs.Runs.{GoodRun, call-is, call-length, call-good, turn-good}
 use Rattle.drafting.specs.declared.Stage.{Stage}
 use Rattle.drafting.specs.declared.Stage.the-variants.{StartValue, Stations, Count, Call, Kind, First, Second, Turn}
 use Rattle.drafting.specs.declared.Scan.{Scan}
-use Rattle.drafting.specs.Draft.{word, noWord, noCode, noNumber, grown, codeFrom, is, draft, tookStart, tookCount, tookStation, tookKind, tookFirst, tookSecond, tookTurn, tookAt, madeCall, endedAt, lackingAt, recordBytes, callFrom, turnFrom}
+use Rattle.drafting.specs.Draft.{word, noWord, noCode, noNumber, grown, codeFrom, is, draft, tookStart, tookCount, tookStation, tookKind, tookFirst, tookSecond, tookTurn, tookAt, madeCall, endedAt, lackingAt, callFrom, turnFrom}
 use Rattle.drafting.specs.Scan.{scan, noScan, wordEnded, lineEnded, stepOn, step, run, given}
 use Rattle.drafting.specs.Parse.{lastDraft, lacking, tableIn, turnsIn}
-use Rattle.drafting.proofs.Records.{same-record}
 use Rattle.drafting.proofs.Sane.{no-call, no-turn}
 use Rattle.drafting.proofs.Goes.{Goes, stays, both, byte-goes, quiet-byte, plain, spelt, word-goes, number-goes}
 
@@ -36,7 +37,7 @@ abbrev call : ℕ → ℕ → ℕ → ℕ → CallRecord
 call station kind a b = record { station = station; kind = kind; a = a; b = b }
 
 -- `start X` and `stations N`
-module _ (x n : ℕ) (h : x < noNumber) (g : 0 < n) (k : n ≤ 32) where
+module _ (x n : ℕ) (h : x < noNumber) (g : 0 < n) (k : n ≤ stationLimit) where
   first-word : Goes noScan (startWord ++ (space ∷ [])) (scan 1 false noWord (draft 0 StartValue 0 0 0 0 noCall)) [] []
   unfolding run given step stepOn wordEnded tookAt grown is codeFrom callFrom turnFrom
   first-word = record { ends = refl; calls = refl; turned = refl }
@@ -51,7 +52,7 @@ module _ (x n : ℕ) (h : x < noNumber) (g : 0 < n) (k : n ≤ 32) where
 
   second-line : step (scan 2 false (word noCode n) (draft 0 Count x 0 0 0 noCall)) newline ≡ scan 3 false noWord (draft 0 Call x n 0 0 noCall)
   unfolding step stepOn lineEnded wordEnded tookAt tookCount endedAt
-  second-line = rw (lt-ltb 0 n g, le-leb n 32 k)
+  second-line = rw (lt-ltb 0 n g, le-leb n stationLimit k)
 
   head-goes : Goes noScan (headText x n) (scan 3 false noWord (draft 0 Call x n 0 0 noCall)) [] []
   unfolding headText
@@ -61,7 +62,7 @@ module _ (x n : ℕ) (h : x < noNumber) (g : 0 < n) (k : n ≤ 32) where
       (quiet-byte _ _ newline second-line refl refl)
 
 -- a call's line
-module _ (line x n q : ℕ) (h : q < 1024) (k : n ≤ 32) (c₀ : CallRecord) where
+module _ (line x n q : ℕ) (h : q < callLimit) (k : n ≤ stationLimit) (c₀ : CallRecord) where
   abbrev from : Scan
   from = scan line false noWord (draft 0 Call x n q 0 c₀)
 
@@ -87,7 +88,7 @@ module _ (line x n q : ℕ) (h : q < 1024) (k : n ≤ 32) (c₀ : CallRecord) wh
 
     read-made : step (scan line false (spelt noWord readWord) (draft 0 Kind x n q 0 (call v 0 0 0))) newline ≡ to (call v 0 0 0)
     unfolding step stepOn lineEnded wordEnded tookAt tookKind is codeFrom grown endedAt madeCall
-    read-made = rw (lt-leb 1024 q h)
+    read-made = rw (lt-leb callLimit q h)
 
     read-goes : Goes from ((decimal v ++ (space ∷ [])) ++ readWord ++ (newline ∷ [])) (to (call v 0 0 0)) (recordBytes (call v 0 0 0)) []
     read-goes =
@@ -101,7 +102,7 @@ module _ (line x n q : ℕ) (h : q < 1024) (k : n ≤ 32) (c₀ : CallRecord) wh
 
       second-made : step (scan line false (word noCode b) (draft 0 Second x n q 0 (call v kind a 0))) newline ≡ to (call v kind a b)
       unfolding step stepOn lineEnded wordEnded tookAt tookSecond endedAt madeCall
-      second-made = rw (lt-ltb b noNumber lb, lt-leb 1024 q h)
+      second-made = rw (lt-ltb b noNumber lb, lt-leb callLimit q h)
 
       values-go : Goes (scan line false noWord (draft 0 First x n q 0 (call v kind 0 0))) (decimal a ++ (space ∷ []) ++ decimal b ++ (newline ∷ [])) (to (call v kind a b)) (recordBytes (call v kind a b)) []
       values-go =
@@ -164,7 +165,7 @@ module _ (line x n q : ℕ) (h : q < 1024) (k : n ≤ 32) (c₀ : CallRecord) wh
       (swap-line v (g .some) (g .few) (c .a) (c .b) (g .a) (g .b))))
 
 -- a turn, and what separates it from the next
-module _ (line x n q t : ℕ) (c₀ : CallRecord) (h : t < 40960) (k : n ≤ 32) (v : ℕ) (some : 0 < v) (few : v ≤ n) where
+module _ (line x n q t : ℕ) (c₀ : CallRecord) (h : t < turnLimit) (k : n ≤ stationLimit) (v : ℕ) (some : 0 < v) (few : v ≤ n) where
   abbrev turned-to : ℕ → Scan
   turned-to l = scan l false noWord (draft 0 Turn x n q (t + 1) (call v 0 0 0))
 
@@ -178,11 +179,11 @@ module _ (line x n q t : ℕ) (c₀ : CallRecord) (h : t < 40960) (k : n ≤ 32)
 
   by-space : step (scan line false (word noCode v) (draft 0 Turn x n q t c₀)) space ≡ turned-to line
   unfolding step stepOn wordEnded tookAt tookTurn
-  by-space = rw (lt-leb 40960 t h, lt-ltb 0 v some, le-leb v n few)
+  by-space = rw (lt-leb turnLimit t h, lt-ltb 0 v some, le-leb v n few)
 
   by-newline : step (scan line false (word noCode v) (draft 0 Turn x n q t c₀)) newline ≡ turned-to (cut (line + 1))
   unfolding step stepOn lineEnded wordEnded tookAt tookTurn endedAt
-  by-newline = rw (lt-leb 40960 t h, lt-ltb 0 v some, le-leb v n few)
+  by-newline = rw (lt-leb turnLimit t h, lt-ltb 0 v some, le-leb v n few)
 
   turn-goes : (b : Bool)
       → Goes (scan line false noWord (draft 0 Turn x n q t c₀)) (decimal v ++ (cond b newline space ∷ []))
@@ -234,7 +235,7 @@ module _ (x n : ℕ) (table turns : List ℕ) (h : AllBytes table) (g : GoodRun 
 
   -- the bytes of a call are those of its numbers
   call-same : (i : ℕ) → i < records table → recordBytes (callRecord (callBytes table i)) ≡ callBytes table i
-  call-same i l = same-record n (callBytes table i) (bytes-part table (12 * i) 12 h) (call-length x n table turns h g i l) (g .goodCalls i l)
+  call-same i l = same-record (callBytes table i) (bytes-part table (12 * i) 12 h) (call-length x n table turns h g i l) (not-bad n (callBytes table i) (g .goodCalls i l) .zero)
 
   calls-go : (i : ℕ) → i ≤ records table
       → Goes (scan 3 false noWord (draft 0 Call x n 0 0 noCall)) (callsText table i) (scan (lineAt i) false noWord (draft 0 Call x n i 0 (callAt i))) (take (12 * i) table) []

@@ -4,6 +4,7 @@ pub mod Fills
 pub mod Records
 pub mod Writable
 pub mod Sane
+pub mod Small
 pub mod Parses
 pub mod Goes
 pub mod Back

@@ -12,10 +12,12 @@ use lib.Dec.{eqb, leb, ltb}
 use lib.ListN.{length, length-append, List·getD-append}
 use lib.Seq.{getD-at}
 use Rattle.octets.specs.Bytes.{bytes}
+use Rattle.rules.specs.Limits.{stationLimit, callLimit, turnLimit}
 use Rattle.rules.proofs.Facts.{and-left, and-right}
 use Rattle.script.specs.Kind.{readWord, setWord, swapWord}
 use Rattle.runfile.specs.declared.CallRecord.{CallRecord}
-use Rattle.runfile.specs.Layout.{records}
+use Rattle.runfile.specs.Layout.{recordBytes, records}
+use Rattle.runfile.proofs.Calls.{length-record}
 use Rattle.runfile.specs.Reading.{badCallAt, badTurnAt}
 use Rattle.runtext.specs.Letters.{startWord, stationsWord, turnsWord}
 use Rattle.runtext.proofs.Records.{GoodCall}
@@ -25,13 +27,13 @@ use Rattle.drafting.specs.declared.Stage.{Stage}
 use Rattle.drafting.specs.declared.Stage.the-variants.{Start, StartValue, AfterStart, Stations, Count, AfterCount, Call, Kind, First, Second, AfterCall, Turn}
 use Rattle.drafting.specs.declared.Draft.{Draft}
 use Rattle.drafting.specs.declared.Scan.{Scan}
-use Rattle.drafting.specs.Draft.{draft, refuse, noNumber, is, isValue, isFrom1To, tookStart, tookCount, tookStation, tookKind, tookFirst, tookSecond, tookTurn, tookAt, madeCall, endedAt, recordBytes, callFrom, turnFrom, callMade, turnMade, lackingAt}
+use Rattle.drafting.specs.Draft.{draft, refuse, noNumber, is, isValue, isFrom1To, tookStart, tookCount, tookStation, tookKind, tookFirst, tookSecond, tookTurn, tookAt, madeCall, endedAt, callFrom, turnFrom, callMade, turnMade, lackingAt}
 use Rattle.drafting.specs.Scan.{wordEnded, lineEnded, stepOn, step, run, given, isBlank, noScan}
 use Rattle.drafting.specs.Parse.{lastDraft, lacking, tableIn, turnsIn}
-use Rattle.drafting.proofs.Records.{good-call, length-record, call-before, call-last}
+use Rattle.drafting.proofs.Records.{good-call, call-before, call-last}
 
 -- what holds of a choice
-by-cond : {X : Type 0} (P : X → Type 0) (b : Bool) {x y : X} → (b ≡ true → P x) → (b ≡ false → P y) → P (cond b x y)
+pub by-cond : {X : Type 0} (P : X → Type 0) (b : Bool) {x y : X} → (b ≡ true → P x) → (b ≡ false → P y) → P (cond b x y)
 by-cond P true f g = f refl
 by-cond P false f g = g refl
 
@@ -40,8 +42,8 @@ record Common (x n q t : ℕ) (table turns : List ℕ) : Type 0 where
   value : x < 2 ^ 32
   calls : length table ≡ 12 * q
   moves : length turns ≡ t
-  fewCalls : q ≤ 1024
-  fewMoves : t ≤ 40960
+  fewCalls : q ≤ callLimit
+  fewMoves : t ≤ turnLimit
   goodCalls : (i : ℕ) → i < q → badCallAt n table i ≡ false
   goodTurns : (i : ℕ) → i < t → badTurnAt n turns i ≡ false
 
@@ -50,7 +52,7 @@ abbrev Unpeopled : ℕ → ℕ → Type 0
 Unpeopled q t = (q ≡ 0) × (t ≡ 0)
 
 abbrev Peopled : ℕ → Type 0
-Peopled n = (0 < n) × (n ≤ 32)
+Peopled n = (0 < n) × (n ≤ stationLimit)
 
 abbrev Stationed : ℕ → CallRecord → Type 0
 Stationed n c = Peopled n × ((0 < c .station) × (c .station ≤ n))
@@ -123,7 +125,7 @@ module _ (d : Draft) (w : Word) (table turns : List ℕ) (c : Common (d .x) (d .
       (ltb-true 0 (w .number) (and-left a b e), leb-true (w .number) n (and-right a b e))
 
   -- a turn more
-  turned : Peopled (d .n) → d .t < 40960 → isFrom1To (d .n) w ≡ true
+  turned : Peopled (d .n) → d .t < turnLimit → isFrom1To (d .n) w ≡ true
       → P (draft (d .expected) Turn (d .x) (d .n) (d .q) (d .t + 1) (record { station = w .number; kind = 0; a = 0; b = 0 }))
   unfolding turnFrom bytes
   turned h few e =
@@ -163,8 +165,8 @@ module _ (d : Draft) (w : Word) (table turns : List ℕ) (c : Common (d .x) (d .
   took AfterStart e h = stay (rw (← e) h) 3
   took Stations e h = by-cond P (is stationsWord w) (λ t. same _ refl refl (c, h)) (λ f. stay (rw (← e) h) 4)
   took Count e h =
-      by-cond P (isFrom1To 32 w)
-      (λ t. same _ refl refl (any-number table turns (d .x) (d .x) (d .n) (w .number) (d .q) (d .t) (c .value) (h .0) (h .1) c, one-to 32 t))
+      by-cond P (isFrom1To stationLimit w)
+      (λ t. same _ refl refl (any-number table turns (d .x) (d .x) (d .n) (w .number) (d .q) (d .t) (c .value) (h .0) (h .1) c, one-to stationLimit t))
       (λ f. stay (rw (← e) h) 5)
   took AfterCount e h = stay (rw (← e) h) 3
   took Call e h =
@@ -198,9 +200,9 @@ module _ (d : Draft) (w : Word) (table turns : List ℕ) (c : Common (d .x) (d .
       (λ f. stay (rw (← e) h) 2)
   took AfterCall e h = stay (rw (← e) h) 3
   took Turn e h =
-      by-cond P (leb 40960 (d .t)) (λ t. stay (rw (← e) h) 10)
+      by-cond P (leb turnLimit (d .t)) (λ t. stay (rw (← e) h) 10)
       (λ f.
-      by-cond P (isFrom1To (d .n) w) (turned h (leb-false 40960 (d .t) f))
+      by-cond P (isFrom1To (d .n) w) (turned h (leb-false turnLimit (d .t) f))
       (λ g. stay (rw (← e) h) 8))
 
 -- the end of a line
@@ -215,7 +217,7 @@ module _ (d : Draft) (table turns : List ℕ) (c : Common (d .x) (d .n) (d .q) (
   lacks h k = no-more (refuse d k) refl refl refl (c, h)
 
   -- a call more
-  called : Peopled (d .n) → GoodCall (d .n) (d .call) → d .q < 1024 → Q (draft (d .expected) Call (d .x) (d .n) (d .q + 1) (d .t) (d .call))
+  called : Peopled (d .n) → GoodCall (d .n) (d .call) → d .q < callLimit → Q (draft (d .expected) Call (d .x) (d .n) (d .q + 1) (d .t) (d .call))
   unfolding callFrom
   called h g few =
       let z : eqb (d .q) (d .q + 1) ≡ false = ne-eqb (d .q) (d .q + 1) (λ q. omega arith) in
@@ -254,7 +256,7 @@ module _ (d : Draft) (table turns : List ℕ) (c : Common (d .x) (d .n) (d .q) (
   over Kind e h = lacks (rw (← e) h) 7
   over First e h = lacks (rw (← e) h) 2
   over Second e h = lacks (rw (← e) h) 2
-  over AfterCall e h = by-cond Q (leb 1024 (d .q)) (λ t. lacks (rw (← e) h) 9) (λ f. called (h .0) (h .1) (leb-false 1024 (d .q) f))
+  over AfterCall e h = by-cond Q (leb callLimit (d .q)) (λ t. lacks (rw (← e) h) 9) (λ f. called (h .0) (h .1) (leb-false callLimit (d .q) f))
   over Turn e h = no-more d refl refl refl (c, rw (← e) h)
 
 -- a byte more
@@ -349,10 +351,10 @@ module _ (text : List ℕ) where
   e = lastDraft text
 
   -- the rows are never longer than those of the largest run
-  pub table-fits : length (tableIn text) ≤ 12288
+  pub table-fits : length (tableIn text) ≤ 12 * callLimit
   table-fits = let c = last-sane text .0 in omega (arith, c .calls, c .fewCalls)
 
-  pub turns-fit : length (turnsIn text) ≤ 40960
+  pub turns-fit : length (turnsIn text) ≤ turnLimit
   turns-fit = let c = last-sane text .0 in omega (arith, c .moves, c .fewMoves)
 
   -- a text that can be read tells a good run

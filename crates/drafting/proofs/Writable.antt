@@ -7,6 +7,7 @@ use native.Mathlib.Omega.{arith}
 use borrow.Author.Tests.{eq-eqb, ne-eqb, le-ltb, lt-ltb}
 use lib.Dec.{eqb, ltb}
 use lib.ListN.{length, drop}
+use Rattle.rules.specs.Limits.{stationLimit, callLimit, turnLimit}
 use Rattle.rules.specs.Row.{Row, verdict, verdictOf}
 use Rattle.rules.proofs.Rows.{Clear, clear-both}
 use Rattle.runfile.specs.Layout.{records, fileOf}
@@ -35,8 +36,8 @@ module _ (x n : ℕ) (table turns : List ℕ) (g : GoodRun x n table turns) wher
       let w = g .whole in
       let z : eqb n 0 ≡ false = ne-eqb n 0 (λ e. omega arith) in
       let m : length table % 12 ≡ 0 = omega arith in (
-        rw (z, le-ltb 32 n b),
-        (le-ltb 1024 (records table) (g .calls), (le-ltb 40960 (length turns) (g .moves), (rw (eq-eqb (length table % 12) 0 m), tt))),
+        rw (z, le-ltb stationLimit n b),
+        (le-ltb callLimit (records table) (g .calls), (le-ltb turnLimit (length turns) (g .moves), (rw (eq-eqb (length table % 12) 0 m), tt))),
       )
 
   no-part : Clear (partRows n table turns)

@@ -1,12 +1,13 @@
 -- What the words of a text say, one word at a time and one line at a time: docs/RUN-TEXT.md. Assumes nothing.
 use mathlib.Core.Bool.{Bool, cond, _&&_}
-use mathlib.Core.List.{List, [], _∷_, _++_}
+use mathlib.Core.List.{List, [], _∷_}
 use Prim.Native.Nat.{ℕ, _+_, _*_, _-_}
 use lib.Dec.{eqb, ltb, leb}
 use Rattle.octets.specs.Bytes.{bytes}
+use Rattle.rules.specs.Limits.{stationLimit, callLimit, turnLimit}
 use Rattle.script.specs.Kind.{readWord, setWord, swapWord}
 use Rattle.runfile.specs.declared.CallRecord.{CallRecord}
-use Rattle.runfile.specs.Layout.{noCall}
+use Rattle.runfile.specs.Layout.{noCall, recordBytes}
 use Rattle.runtext.specs.Letters.{startWord, stationsWord, turnsWord}
 use Rattle.drafting.specs.declared.Word.{Word}
 use Rattle.drafting.specs.declared.Stage.{Stage}
@@ -85,7 +86,7 @@ unfoldable pub tookStart : Draft → Word → Draft
 tookStart d w = cond (isValue w) (draft (d .expected) AfterStart (w .number) (d .n) (d .q) (d .t) (d .call)) (refuse d 2)
 
 unfoldable pub tookCount : Draft → Word → Draft
-tookCount d w = cond (isFrom1To 32 w) (draft (d .expected) AfterCount (d .x) (w .number) (d .q) (d .t) (d .call)) (refuse d 5)
+tookCount d w = cond (isFrom1To stationLimit w) (draft (d .expected) AfterCount (d .x) (w .number) (d .q) (d .t) (d .call)) (refuse d 5)
 
 -- the first word of a line: a station, whose call it is, or `turns`
 unfoldable pub tookStation : Draft → Word → Draft
@@ -109,7 +110,7 @@ tookSecond d w =
 
 unfoldable pub tookTurn : Draft → Word → Draft
 tookTurn d w =
-    cond (leb 40960 (d .t)) (refuse d 10)
+    cond (leb turnLimit (d .t)) (refuse d 10)
     (cond (isFrom1To (d .n) w)
     (draft (d .expected) Turn (d .x) (d .n) (d .q) (d .t + 1) (record { station = w .number; kind = 0; a = 0; b = 0 })) (refuse d 8))
 
@@ -130,7 +131,7 @@ tookAt Turn d w = tookTurn d w
 
 -- a call is made where its line ends
 unfoldable pub madeCall : Draft → Draft
-madeCall d = cond (leb 1024 (d .q)) (refuse d 9) (draft (d .expected) Call (d .x) (d .n) (d .q + 1) (d .t) (d .call))
+madeCall d = cond (leb callLimit (d .q)) (refuse d 9) (draft (d .expected) Call (d .x) (d .n) (d .q + 1) (d .t) (d .call))
 
 -- the line ends
 unfoldable pub endedAt : Stage → Draft → Draft
@@ -163,9 +164,6 @@ lackingAt AfterCall = 0
 lackingAt Turn = 0
 
 -- the bytes that a draft adds to the call table and to the turns, where it has a call or a turn more than before
-unfoldable pub recordBytes : CallRecord → List ℕ
-recordBytes c = bytes 2 (c .station) ++ bytes 1 (c .kind) ++ bytes 1 0 ++ bytes 4 (c .a) ++ bytes 4 (c .b)
-
 unfoldable pub callFrom : ℕ → Draft → List ℕ
 callFrom q d = cond (eqb q (d .q)) [] (recordBytes (d .call))
 

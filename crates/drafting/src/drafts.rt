@@ -14,6 +14,12 @@ use crate::words::SWAP;
 use crate::words::TURNS;
 use runfile::CallRecord;
 
+const MOST_STATIONS: u64 = rules::STATIONS as u64;
+
+const MOST_CALLS: usize = rules::CALLS as usize;
+
+const MOST_TURNS: usize = rules::TURNS as usize;
+
 fn with_call(d: Draft, stage: Stage, call: CallRecord) -> Draft
     ensures { λ r. ⌜ r ≡ draft (d .expected) stage (d .x) (d .n) (d .q) (d .t) call ⌝ }
 {
@@ -83,7 +89,7 @@ fn took_count(d: Draft, w: Word) -> Draft
     ensures { λ r. ⌜ r ≡ tookCount d w ⌝ }
 {
     let call = d.call;
-    if (0 < w.number) & (w.number <= 32) {
+    if (0 < w.number) & (w.number <= MOST_STATIONS) {
         return Draft {
             expected: d.expected,
             stage: Stage::AfterCount,
@@ -178,7 +184,7 @@ fn took_second(d: Draft, w: Word) -> Draft
 fn took_turn(d: Draft, w: Word) -> Draft
     ensures { λ r. ⌜ r ≡ tookTurn d w ⌝ }
 {
-    if 40960 <= d.t {
+    if MOST_TURNS <= d.t {
         return refuse(d, 10);
     }
     if (0 < w.number) & (w.number <= d.n as u64) {
@@ -226,7 +232,7 @@ fn made_call(d: Draft) -> Draft
     ensures { λ r. ⌜ r ≡ madeCall d ⌝ }
 {
     let call = d.call;
-    if 1024 <= d.q {
+    if MOST_CALLS <= d.q {
         return refuse(d, 9);
     }
     Draft {

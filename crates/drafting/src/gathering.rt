@@ -2,7 +2,8 @@
 ghost use mathlib.Core.Path.{_≡_};
 ghost use Rattle.octets.specs.Bytes.{bytes};
 ghost use Rattle.script.specs.Wrote.{Wrote};
-ghost use Rattle.drafting.specs.Draft.{recordBytes, callFrom, turnFrom, callMade, turnMade};
+ghost use Rattle.runfile.specs.Layout.{recordBytes};
+ghost use Rattle.drafting.specs.Draft.{callFrom, turnFrom, callMade, turnMade};
 ghost use Rattle.drafting.specs.Scan.{noScan, step, run, given};
 ghost use Rattle.drafting.specs.Gather.{Filled};
 ghost use Rattle.drafting.specs.Parse.{lastDraft, tableIn, turnsIn};

@@ -10,6 +10,7 @@ mod words;
 
 pub use parsing::parse;
 pub use promises::answer_is_settled;
+pub use promises::buffer_is_enough;
 pub use promises::printed_reads_back;
 pub use promises::texts_tell_good_runs;
 use runfile::CallRecord;

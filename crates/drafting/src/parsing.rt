@@ -1,11 +1,18 @@
 // A text as a run file.
 ghost use mathlib.Core.Path.{_≡_};
+ghost use Prim.Native.Nat.{_*_};
 ghost use lib.ListN.{length};
+ghost use Rattle.rules.specs.Limits.{callLimit, turnLimit};
 ghost use Rattle.drafting.specs.Parse.{lacking, ParsedTo};
 use crate::Draft;
 use crate::Parsed;
 use crate::drafts::lacking_at;
 use crate::gathering::heaped;
+
+// The bytes of the largest call table, and the most turns.
+const TABLE: usize = 12 * rules::CALLS as usize;
+
+const TURNS: usize = rules::TURNS as usize;
 
 fn lacking(d: Draft) -> u32
     ensures { λ r. ⌜ r ≡ lacking d ⌝ }
@@ -19,7 +26,7 @@ fn lacking(d: Draft) -> u32
 
 // The same with two rows to gather calls and turns in.
 fn parse_by(text: &[u8], table: &mut [u8], turns: &mut [u8], out: &mut [u8]) -> Parsed
-    requires { ⌜ (length (now table) ≡ 12288) × (length (now turns) ≡ 40960) ⌝ }
+    requires { ⌜ (length (now table) ≡ 12 * callLimit) × (length (now turns) ≡ turnLimit) ⌝ }
     ensures { λ r. ⌜ ParsedTo (now (text .entry)) (now (out .entry)) r (now (out .exit)) ⌝ }
 {
     let h = heaped(text, table, turns);
@@ -46,7 +53,7 @@ fn parse_by(text: &[u8], table: &mut [u8], turns: &mut [u8], out: &mut [u8]) -> 
 pub fn parse(text: &[u8], out: &mut [u8]) -> Parsed
     ensures { λ r. ⌜ ParsedTo (now (text .entry)) (now (out .entry)) r (now (out .exit)) ⌝ }
 {
-    let mut table = [0u8; 12288];
-    let mut turns = [0u8; 40960];
+    let mut table = [0u8; TABLE];
+    let mut turns = [0u8; TURNS];
     parse_by(text, &mut table, &mut turns, out)
 }

@@ -19,12 +19,6 @@ pub(crate) const SWAP: u64 = 646192;
 
 pub(crate) const TURNS: u64 = 21678547;
 
-fn wide(b: u8) -> u64
-    ensures { λ r. ⌜ r ≡ b ⌝ }
-{
-    b as u64
-}
-
 fn code_more(code: u64, b: u64) -> u64
     ensures { λ r. ⌜ r ≡ codeMore code b ⌝ }
 {
@@ -47,7 +41,7 @@ fn number_more(number: u64, b: u64) -> u64
 pub(crate) fn grown(w: Word, b: u8) -> Word
     ensures { λ r. ⌜ r ≡ grown w b ⌝ }
 {
-    let x = wide(b);
+    let x = octets::wide(b) as u64;
     Word {
         code: code_more(w.code, x),
         number: number_more(w.number, x),

@@ -3,6 +3,7 @@ use mathlib.Core.Bool.{cond}
 use mathlib.Core.List.{List, [], _∷_, _++_}
 use Prim.Native.Nat.{ℕ, min}
 use lib.Dec.{eqb}
+use Rattle.rules.specs.Limits.{stationLimit, callLimit, turnLimit}
 use Rattle.script.specs.Decimal.{decimal}
 use Rattle.script.specs.Quote.{quote}
 use Rattle.runtext.specs.Letters.{newline}
@@ -15,12 +16,12 @@ wordsFor expected =
     (cond (eqb expected 2) (quote "a value from 0 to 4294967295")
     (cond (eqb expected 3) (quote "the end of the line")
     (cond (eqb expected 4) (quote "stations")
-    (cond (eqb expected 5) (quote "a number of stations from 1 to 32")
+    (cond (eqb expected 5) (quote "a number of stations from 1 to " ++ decimal stationLimit)
     (cond (eqb expected 6) (quote "a station or turns")
     (cond (eqb expected 7) (quote "read, set or swap")
     (cond (eqb expected 8) (quote "a station")
-    (cond (eqb expected 9) (quote "no more than 1024 calls")
-    (cond (eqb expected 10) (quote "no more than 40960 turns") (quote "a longer buffer"))))))))))
+    (cond (eqb expected 9) (quote "no more than " ++ decimal callLimit ++ quote " calls")
+    (cond (eqb expected 10) (quote "no more than " ++ decimal turnLimit ++ quote " turns") (quote "a longer buffer"))))))))))
 
 -- the line number is counted no further than the largest value
 unfoldable pub complaintOf : Parsed → List ℕ

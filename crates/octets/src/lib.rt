@@ -17,10 +17,11 @@ pub fn store(out: &mut [u8], x: u64)
     }
 }
 
-fn wide(b: u8) -> u64
+// A byte as a wider number.
+pub fn wide(b: u8) -> u32
     ensures { λ r. ⌜ r ≡ b ⌝ }
 {
-    b as u64
+    b as u32
 }
 
 // The number that the part spells, lowest byte first. A part of over 8 bytes is read as far as its eighth.
@@ -34,7 +35,7 @@ pub fn number(part: &[u8]) -> u64
     }
     while 0 < i {
         i = i - 1;
-        x = wide(part[i]) + 256 * x;
+        x = wide(part[i]) as u64 + 256 * x;
     }
     x
 }

@@ -4,23 +4,18 @@ use libc::STDERR_FILENO;
 use libc::STDIN_FILENO;
 use libc::STDOUT_FILENO;
 
-fn tell_refusal(refused: u32, k: usize) {
-    io::write_all(STDERR_FILENO, b"refused ");
-    io::print_decimal(STDERR_FILENO, refused as u64);
-    io::write_all(STDERR_FILENO, b" ");
-    io::print_decimal(STDERR_FILENO, k as u64);
-    io::write_all(STDERR_FILENO, b"\n");
-}
-
 fn printed(file: &[u8], text: &mut [u8]) {
-    let r = runtext::print(file, text);
-    let len = r.len;
-    if r.refused != 0 {
-        tell_refusal(r.refused, r.k);
+    let r = runtext::output(file, text);
+    if r.refused {
+        write_front(STDERR_FILENO, text, r.len);
         return;
     }
-    if len <= text.len() {
-        io::write_all(STDOUT_FILENO, &text[0..len]);
+    write_front(STDOUT_FILENO, text, r.len);
+}
+
+fn write_front(fd: i32, buf: &[u8], len: usize) {
+    if len <= buf.len() {
+        io::write_all(fd, &buf[0..len]);
     }
 }
 

@@ -13,7 +13,7 @@ use Rattle.rules.proofs.Facts.{either-way, or-none}
 use Rattle.rules.proofs.Rows.{Clear, clear, clear-front, clear-back, none-given, silent, chosen, stopped, passed}
 use Rattle.runfile.specs.declared.Trailer.{Trailer}
 use Rattle.runfile.specs.declared.ReadAnswer.{ReadAnswer}
-use Rattle.runfile.specs.Reading.{turnCount, agrees, trailerAt, numberRows, contentRows, trailerRows, badLength, readRows, noRun, runBy, readBy, readOf}
+use Rattle.runfile.specs.Reading.{turnCount, agrees, trailerAt, numberRows, contentRows, trailerRows, longest, badLength, readRows, noRun, runBy, readBy, readOf}
 use Rattle.runfile.specs.Promise.{TrailerPointsBack}
 use Rattle.runfile.proofs.Limits.{within, Agreed, agreed}
 
@@ -56,7 +56,7 @@ good f c =
     let z = trailerAt f in
     let l = clear-front (numberRows f z) (contentRows f z) (c .1 .1) in
     record {
-      long = ltb-false (length f) 16 (or-none (ltb (length f) 16) (ltb 53264 (length f)) (c .0) .0);
+      long = ltb-false (length f) 16 (or-none (ltb (length f) 16) (ltb longest (length f)) (c .0) .0);
       form = eqb-true (z .form) 1 (not-false (eqb (z .form) 1) (c .1 .0));
       numbers = l;
       agree = agreed (length f) z (within (z .n) (z .q) (turnCount z) (agrees (length f) z) l .agreed);

@@ -1,21 +1,23 @@
 -- Refusals of the reader and of the writer, exactly when, with their K; the writer's contract settles its answer. Assumes nothing.
 use mathlib.Core.Path.{_≡_, refl, _∙_, sym, ap}
 use mathlib.Core.Logic.{_↔_}
-use mathlib.Core.Bool.{Bool, true, false, cond}
+use mathlib.Core.Bool.{Bool, true, false, cond, not, _||_}
 use mathlib.Core.List.{List, []}
-use Prim.Native.Nat.{ℕ, _*_, _<_}
+use Prim.Native.Nat.{ℕ, _*_, _%_, _<_}
 use native.Mathlib.Omega.{arith}
-use borrow.Author.Tests.{ltb-true, ltb-false, le-ltb, ne-eqb}
-use lib.Dec.{ltb}
+use borrow.Author.Tests.{eqb-true, ltb-true, ltb-false, le-ltb, ne-eqb, not-false}
+use lib.Dec.{eqb, ltb}
 use lib.ListN.{length}
-use Rattle.rules.specs.Refusal.{holdsAt, proper}
+use Rattle.rules.specs.Limits.{stationLimit, callLimit, turnLimit}
+use Rattle.rules.specs.Refusal.{holdsAt, earlier, proper}
 use Rattle.rules.specs.Row.{Row, verdictOf, refusals, kAt, RowsExactly, ExactRows}
+use Rattle.rules.proofs.Facts.{or-none}
 use Rattle.rules.proofs.Rows.{exact-rows}
 use Rattle.runfile.specs.First.{firstOf}
 use Rattle.runfile.specs.Layout.{part, records}
 use Rattle.runfile.specs.Reading.{badCallAt, badTurnAt, firstCall, firstTurn, trailerAt, tableBy, turnsBy, readRows, noRun, readOf}
-use Rattle.runfile.specs.Writing.{writeRows, writeOf}
-use Rattle.runfile.specs.Promise.{Exactly, Emptied, RefusedExactly, WriterSettled}
+use Rattle.runfile.specs.Writing.{fileLength, writeRows, writeOf}
+use Rattle.runfile.specs.Promise.{WriterEnough, Exactly, Emptied, RefusedExactly, WriterSettled}
 use Rattle.runfile.proofs.Answers.{by-answer, read-number, read-k}
 use Rattle.runfile.proofs.First.{searched}
 use Rattle.runfile.proofs.Writes.{write-number, write-k}
@@ -82,6 +84,22 @@ writer n table turns room =
     exactly-by
     (record { once = refl; badCalls = refl; badTurns = refl; callK = refl; turnK = refl; noK = λ m a b. simp (ne-eqb m 7 a, ne-eqb m 8 b, nothing) })
     (writeOf n table turns room .refused) (writeOf n table turns room .k) (write-number n table turns room) (write-k n table turns room)
+
+-- where 14 holds and none before it does, the run is within its limits and the room is less than its file
+pub writer-enough : WriterEnough
+unfolding WriterEnough holdsAt earlier
+writer-enough n table turns room h e =
+    let w = writer n table turns room in
+    let g = w .exactly .some 14 .0 (sym (w .number) ∙ e, refl) in
+    let l = ltb-true room (fileLength table turns) (g .0) in
+    let a = or-none (eqb n 0 || ltb stationLimit n) _ (g .1) in
+    let b = or-none (ltb callLimit (records table)) _ (a .1) in
+    let c = or-none (ltb turnLimit (length turns)) _ (b .1) in
+    let d = or-none (not (eqb (length table % 12) 0)) _ (c .1) in
+    let q = ltb-false callLimit (records table) (b .0) in
+    let t = ltb-false turnLimit (length turns) (c .0) in
+    let m = eqb-true (length table % 12) 0 (not-false (eqb (length table % 12) 0) (d .0)) in
+    omega arith
 
 emptied : (f : List ℕ) → (readOf f .refused ≡ 0 → ⊥) → Emptied f
 emptied f h =

@@ -4,23 +4,24 @@ use mathlib.Core.Bool.{Bool, true}
 use Prim.Native.Nat.{ℕ, _+_, _*_, _≤_}
 use borrow.Author.Tests.{eqb-true, eq-eqb, ltb-false, not-false}
 use lib.Dec.{eqb, ltb}
+use Rattle.rules.specs.Limits.{stationLimit, callLimit, turnLimit}
 use Rattle.rules.proofs.Facts.{and-left, and-right, and-both, or-none}
 use Rattle.rules.proofs.Rows.{Clear}
 use Rattle.runfile.specs.declared.Trailer.{Trailer}
 use Rattle.runfile.specs.Reading.{limitRows, agrees}
 
 pub record Within (n q t : ℕ) (agree : Bool) : Type 0 where
-  pub few : n ≤ 32
-  pub calls : q ≤ 1024
-  pub turns : t ≤ 40960
+  pub few : n ≤ stationLimit
+  pub calls : q ≤ callLimit
+  pub turns : t ≤ turnLimit
   pub agreed : agree ≡ true
 
 pub within : (n q t : ℕ) (agree : Bool) → Clear (limitRows n q t agree) → Within n q t agree
 within n q t agree f =
     record {
-      few = ltb-false 32 n (or-none (eqb n 0) (ltb 32 n) (f .0) .1);
-      calls = ltb-false 1024 q (f .1 .0);
-      turns = ltb-false 40960 t (f .1 .1 .0);
+      few = ltb-false stationLimit n (or-none (eqb n 0) (ltb stationLimit n) (f .0) .1);
+      calls = ltb-false callLimit q (f .1 .0);
+      turns = ltb-false turnLimit t (f .1 .1 .0);
       agreed = not-false agree (f .1 .1 .1 .0);
     }
 

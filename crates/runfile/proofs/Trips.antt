@@ -13,7 +13,7 @@ use Rattle.rules.proofs.Rows.{Clear, clear-both}
 use Rattle.runfile.specs.declared.Trailer.{Trailer}
 use Rattle.runfile.specs.declared.WriteAnswer.{WriteAnswer}
 use Rattle.runfile.specs.Layout.{part, records, trailerOf, trailer, trailerBytes, fileOf}
-use Rattle.runfile.specs.Reading.{partRows, turnCount, agrees, trailerAt, tableBy, turnsBy, numberRows, contentRows, trailerRows, badLength, readRows, runBy, readOf}
+use Rattle.runfile.specs.Reading.{partRows, turnCount, agrees, trailerAt, tableBy, turnsBy, numberRows, contentRows, trailerRows, longest, badLength, readRows, runBy, readOf}
 use Rattle.runfile.specs.Writing.{fileLength, lengthRows, roomRows, writeRows, wrote, Written}
 use Rattle.runfile.specs.Promise.{Holds, WrittenReadsBack, WrittenAs, ReadWritesBack}
 use Rattle.runfile.proofs.Answers.{Good, by-answer, reads}
@@ -60,7 +60,7 @@ module _ (x n : ℕ) (table turns : List ℕ) (room : ℕ) (h : x < 2 ^ 32) (a :
       let e = length-file x n table turns in
       let g = agreeing (length F) z (record { first = refl; whole = omega arith }) in
       subst (λ y. Clear (row 1 (badLength F) 0 ∷ trailerRows F y)) (sym trailer-there) (
-        rw (le-ltb (length F) 16 (omega arith), le-ltb 53264 (length F) (omega arith)),
+        rw (le-ltb (length F) 16 (omega arith), le-ltb longest (length F) (omega arith)),
         (
           refl,
           clear-both (numberRows F z) (contentRows F z)

@@ -22,6 +22,10 @@ callRecord s = record { station = field s 0 2; kind = field s 2 1; a = field s 4
 abbrev pub zeroByte : List ℕ → ℕ
 zeroByte s = field s 3 1
 
+-- the same, written
+unfoldable pub recordBytes : CallRecord → List ℕ
+recordBytes c = bytes 2 (c .station) ++ bytes 1 (c .kind) ++ bytes 1 0 ++ bytes 4 (c .a) ++ bytes 4 (c .b)
+
 -- the whole records of a table, and the bytes of the one at an index from 0
 abbrev pub records : List ℕ → ℕ
 records table = length table / 12

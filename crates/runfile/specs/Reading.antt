@@ -73,9 +73,13 @@ contentRows f z = partRows (z .n) (tableBy z f) (turnsBy z f)
 abbrev pub trailerRows : List ℕ → Trailer → List Row
 trailerRows f z = row 2 (not (eqb (z .form) 1)) 0 ∷ numberRows f z ++ contentRows f z
 
+-- the longest file: 53,264 bytes
+abbrev pub longest : ℕ
+longest = 16 + turnLimit + 12 * callLimit
+
 -- 1: file under 16 or over 53,264 bytes; then 2 to 8
 abbrev pub badLength : List ℕ → Bool
-badLength f = ltb (length f) 16 || ltb 53264 (length f)
+badLength f = ltb (length f) 16 || ltb longest (length f)
 
 abbrev pub readRows : List ℕ → List Row
 readRows f = row 1 (badLength f) 0 ∷ trailerRows f (trailerAt f)

@@ -5,7 +5,15 @@ ghost use Rattle.rules.specs.Row.{verdictOf};
 ghost use Rattle.runfile.specs.Reading.{badCall, firstCall, firstTurn, limitRows, partRows};
 use crate::layout::field;
 use crate::layout::record_at;
+use octets::wide;
+use rules::CALLS;
+use rules::STATIONS;
+use rules::TURNS;
 use rules::Verdict;
+
+const MOST_CALLS: usize = CALLS as usize;
+
+const MOST_TURNS: usize = TURNS as usize;
 
 fn bad_call(n: u32, s: &[u8]) -> bool
     requires { ⌜ length (now s) ≡ 12 ⌝ }
@@ -34,12 +42,6 @@ fn first_call(n: u32, table: &[u8]) -> usize
     0
 }
 
-fn wide(b: u8) -> u32
-    ensures { λ r. ⌜ r ≡ b ⌝ }
-{
-    b as u32
-}
-
 // The first bad turn, from 1; 0 where all are good.
 fn first_turn(n: u32, turns: &[u8]) -> usize
     ensures { λ r. ⌜ r ≡ firstTurn n (now (turns .entry)) ⌝ }
@@ -59,13 +61,13 @@ fn first_turn(n: u32, turns: &[u8]) -> usize
 pub(crate) fn limits(n: u32, q: usize, t: usize, agree: bool) -> Verdict
     ensures { λ r. ⌜ r ≡ verdictOf (limitRows n q t agree) ⌝ }
 {
-    if (n == 0) | (32 < n) {
+    if (n == 0) | (STATIONS < n) {
         return Verdict { refused: 3, k: 0 };
     }
-    if 1024 < q {
+    if MOST_CALLS < q {
         return Verdict { refused: 4, k: 0 };
     }
-    if 40960 < t {
+    if MOST_TURNS < t {
         return Verdict { refused: 5, k: 0 };
     }
     if !agree {

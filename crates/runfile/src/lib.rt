@@ -8,12 +8,15 @@ mod reading;
 mod writing;
 
 pub use layout::call_at;
+pub use promises::buffer_is_enough;
+pub use promises::calls_are_spelled;
 pub use promises::read_writes_back;
 pub use promises::refused_exactly;
 pub use promises::trailer_points_back;
 pub use promises::writer_is_settled;
 pub use promises::writes_only_output;
 pub use promises::written_reads_back;
+pub use reading::part;
 pub use reading::read;
 pub use reading::table;
 pub use reading::turns;

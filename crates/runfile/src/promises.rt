@@ -1,5 +1,10 @@
 // What is proved of reading and writing together; each function stands for the promise that it ensures.
-ghost use Rattle.runfile.specs.Promise.{WrittenReadsBack, WritesOnlyOutput, ReadWritesBack, TrailerPointsBack, RefusedExactly, WriterSettled};
+ghost use Rattle.runfile.specs.Promise.{CallsSpelled, WrittenReadsBack, WritesOnlyOutput, ReadWritesBack, TrailerPointsBack, WriterEnough, RefusedExactly, WriterSettled};
+
+// The bytes of a call tell the call, and are told by it.
+pub fn calls_are_spelled()
+    ensures { λ r. ⌜ CallsSpelled ⌝ }
+{}
 
 // What is read from a written file is what was written.
 pub fn written_reads_back()
@@ -19,6 +24,11 @@ pub fn read_writes_back()
 // The trailer of a file that reads well points back to the call table and to the turns.
 pub fn trailer_points_back()
     ensures { λ r. ⌜ TrailerPointsBack ⌝ }
+{}
+
+// A buffer of 53,264 bytes is enough for the file of any run.
+pub fn buffer_is_enough()
+    ensures { λ r. ⌜ WriterEnough ⌝ }
 {}
 
 // Reader and writer refuse exactly when a row of the table holds, with the first such call or turn as K.

@@ -1,13 +1,19 @@
 // A run file is read, and its parts are handed out.
 ghost use mathlib.Core.Path.{_≡_};
 ghost use Rattle.rules.specs.Row.{verdictOf};
+ghost use Rattle.runfile.specs.Layout.{part};
 ghost use Rattle.runfile.specs.Reading.{trailerRows, noRun, readOf, tableOf, turnsOf};
 use crate::ReadAnswer;
 use crate::Trailer;
 use crate::checks::limits;
 use crate::checks::parts;
 use crate::layout::trailer_at;
+use rules::CALLS;
+use rules::TURNS;
 use rules::Verdict;
+
+// The bytes of the longest file.
+const LONGEST: usize = 16 + TURNS as usize + 12 * CALLS as usize;
 
 // Refusals 2 to 8 of a file with this trailer. The distances are added as 64-bit numbers, where they do not wrap.
 fn judged(file: &[u8], z: Trailer) -> Verdict
@@ -49,7 +55,7 @@ pub fn read(file: &[u8]) -> ReadAnswer
     ensures { λ r. ⌜ r ≡ readOf (now (file .entry)) ⌝ }
 {
     let len = file.len();
-    if (len < 16) | (53264 < len) {
+    if (len < 16) | (LONGEST < len) {
         return refused(1, 0);
     }
     let a = len - 16;
@@ -71,14 +77,27 @@ pub fn read(file: &[u8]) -> ReadAnswer
     }
 }
 
+// The k bytes from place at on, as far as there are so many.
+pub fn part(s: &[u8], at: usize, k: usize) -> &[u8]
+    ensures { λ r. ⌜ now r ≡ part (now (s .entry)) at k ⌝ }
+{
+    let len = s.len();
+    if len <= at {
+        return &s[len..len];
+    }
+    if len - at <= k {
+        return &s[at..len];
+    }
+    let e = at + k;
+    &s[at..e]
+}
+
 // The call table of a file, a part of it; empty for a refused one.
 pub fn table(file: &[u8]) -> &[u8]
     ensures { λ r. ⌜ now r ≡ tableOf (now (file .entry)) ⌝ }
 {
     let r = read(file);
-    let a = r.start;
-    let e = a + 12 * r.q;
-    &file[a..e]
+    part(file, r.start, 12 * r.q)
 }
 
 // The turns of a file, a part of it; empty for a refused one.
@@ -86,7 +105,5 @@ pub fn turns(file: &[u8]) -> &[u8]
     ensures { λ r. ⌜ now r ≡ turnsOf (now (file .entry)) ⌝ }
 {
     let r = read(file);
-    let a = r.middle;
-    let e = a + r.t;
-    &file[a..e]
+    part(file, r.middle, r.t)
 }

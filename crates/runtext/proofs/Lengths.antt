@@ -5,6 +5,7 @@ use native.Mathlib.Omega.{arith}
 use lib.Dec.{eqb}
 use lib.ListN.{length, getD, length-append}
 use Rattle.octets.specs.Bytes.{AllBytes}
+use Rattle.rules.specs.Limits.{stationLimit}
 use Rattle.rules.proofs.Facts.{either-way}
 use Rattle.script.specs.Decimal.{decimal}
 use Rattle.script.proofs.Decimals.{length-decimal, length-decimal-32}
@@ -15,10 +16,10 @@ use Rattle.runtext.specs.Text.{headText, valuesText, callText, callsText
 use Rattle.runtext.proofs.Records.{GoodCall}
 use Rattle.runtext.proofs.Runs.{GoodRun, call-is, call-good, turn-good}
 
-two-digits : (n : ℕ) → n ≤ 32 → length (decimal n) ≤ 2
+two-digits : (n : ℕ) → n ≤ stationLimit → length (decimal n) ≤ 2
 two-digits n h = length-decimal n 2 (omega arith) (omega arith)
 
-length-head : (x n : ℕ) → x < 2 ^ 32 → n ≤ 32 → length (headText x n) ≤ 29
+length-head : (x n : ℕ) → x < 2 ^ 32 → n ≤ stationLimit → length (headText x n) ≤ 29
 unfolding headText
 length-head x n h g = simp length-append (omega (arith, length-decimal-32 x h, two-digits n g))
 
@@ -28,7 +29,7 @@ length-values c h g =
     either-way (eqb (c .kind) 0) (λ t. rw t (omega arith))
     (λ f. rw f (simp length-append (omega (arith, length-decimal-32 (c .a) h, length-decimal-32 (c .b) g))))
 
-length-call : (n : ℕ) (c : CallRecord) → n ≤ 32 → GoodCall n c → length (callText c) ≤ 30
+length-call : (n : ℕ) (c : CallRecord) → n ≤ stationLimit → GoodCall n c → length (callText c) ≤ 30
 unfolding callText
 length-call n c h g =
     let s = g .few in

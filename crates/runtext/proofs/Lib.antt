@@ -4,3 +4,4 @@ pub mod Runs
 pub mod Lengths
 pub mod Prints
 pub mod Promised
+pub mod Outputs

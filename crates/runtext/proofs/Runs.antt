@@ -10,6 +10,7 @@ use lib.Dec.{eqb, ltb}
 use lib.ListN.{length, getD, length-take}
 use Rattle.octets.specs.Bytes.{AllBytes}
 use Rattle.octets.proofs.Spelled.{fits-in}
+use Rattle.rules.specs.Limits.{stationLimit, callLimit, turnLimit}
 use Rattle.rules.proofs.Facts.{or-none}
 use Rattle.runfile.specs.Layout.{part, records, callBytes, callRecord, callOf}
 use Rattle.runfile.specs.First.{firstOf}
@@ -23,10 +24,10 @@ use Rattle.runtext.proofs.Records.{GoodCall, numbers}
 pub record GoodRun (x n : ℕ) (table turns : List ℕ) : Type 0 where
   pub value : x < 2 ^ 32
   pub some : 0 < n
-  pub few : n ≤ 32
+  pub few : n ≤ stationLimit
   pub whole : 12 * records table ≡ length table
-  pub calls : records table ≤ 1024
-  pub moves : length turns ≤ 40960
+  pub calls : records table ≤ callLimit
+  pub moves : length turns ≤ turnLimit
   pub goodCalls : (i : ℕ) → i < records table → badCallAt n table i ≡ false
   pub goodTurns : (i : ℕ) → i < length turns → badTurnAt n turns i ≡ false
 
@@ -44,7 +45,7 @@ module _ (f : List ℕ) (h : AllBytes f) where
       let l = within (z .n) (z .q) (turnCount z) (agrees (length f) z) (g .numbers) in
       let s : length (tableBy z f) ≡ 12 * z .q = length-part f 0 (12 * z .q) (omega arith) in
       let t : length (turnsBy z f) ≡ turnCount z = length-part f (12 * z .q) (turnCount z) (omega arith) in
-      let n = eqb-false (z .n) 0 (or-none (eqb (z .n) 0) (ltb 32 (z .n)) (g .numbers .0) .0) in
+      let n = eqb-false (z .n) 0 (or-none (eqb (z .n) 0) (ltb stationLimit (z .n)) (g .numbers .0) .0) in
       record {
         value = fits-in 4 (part (part f (length f - 16) 16) 0 4) (bytes-part (part f (length f - 16) 16) 0 4 (bytes-part f (length f - 16) 16 h)) (simp length-take (omega arith));
         some = omega arith;

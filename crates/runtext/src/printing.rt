@@ -1,11 +1,11 @@
 // A run file as text.
-ghost use mathlib.Core.Path.{_≡_};
 ghost use Prim.Native.Nat.{_<_};
 ghost use lib.ListN.{length};
 ghost use Rattle.script.specs.Wrote.{Wrote};
 ghost use Rattle.runfile.specs.Layout.{records};
 ghost use Rattle.runtext.specs.Text.{headText, valuesText, callText, callsText, turnText, rowsText, turnsText, textOf, PrintedTo};
 use crate::Printed;
+use octets::wide;
 use runfile::CallRecord;
 use runfile::call_at;
 use script::decimal;
@@ -57,12 +57,6 @@ fn put_calls(out: &mut [u8], at: usize, table: &[u8]) -> usize
         o = put_call(out, o, c);
     }
     o
-}
-
-fn wide(b: u8) -> u32
-    ensures { λ r. ⌜ r ≡ b ⌝ }
-{
-    b as u32
 }
 
 // A turn, and the end of its row after each twentieth and after the last.

@@ -1,3 +1,4 @@
 pub mod Writes
 pub mod Decimals
 pub mod Lengths
+pub mod Outputs

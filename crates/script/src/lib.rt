@@ -1,11 +1,13 @@
-// Text appended to a lent buffer: a byte, a word, a decimal number, the word for a call's kind. What has no place in the
-// buffer is not written, but the place handed back counts it, so a text is measured by writing it to a buffer of one byte.
+// Text appended to a lent buffer: a byte, a word, a decimal number, the word for a call's kind, the line of a refusal. What has no
+// place in the buffer is not written, but the place handed back counts it, so a text is measured by writing it to a buffer of
+// one byte.
 ghost use mathlib.Core.Path.{_≡_};
 ghost use mathlib.Core.List.{[], _∷_};
 ghost use Prim.Native.Nat.{_≤_};
 ghost use Rattle.script.specs.Wrote.{Wrote};
 ghost use Rattle.script.specs.Decimal.{decimal, back};
 ghost use Rattle.script.specs.Kind.{kindWord};
+ghost use Rattle.script.specs.Output.{refusedText, OutputSettled, OutputWhole};
 ghost use Rattle.script.specs.Promise.{WritersSettled};
 
 // The place past which none is counted.
@@ -96,7 +98,28 @@ pub fn kind(out: &mut [u8], at: usize, kind: u32) -> usize
     }
 }
 
+// The line that tells a refusal and its K.
+pub fn refused(out: &mut [u8], at: usize, number: u32, k: u32) -> usize
+    ensures { λ r. ⌜ Wrote (now (out .entry)) (now (out .exit)) at r (refusedText number k) ⌝ }
+{
+    let o1 = word(out, at, b"refused ");
+    let o2 = decimal(out, o1, number);
+    let o3 = put(out, o2, b' ');
+    let o4 = decimal(out, o3, k);
+    put(out, o4, b'\n')
+}
+
 // The contract of a writer allows one buffer and one next place for each input.
 pub fn writers_are_settled()
     ensures { λ r. ⌜ WritersSettled ⌝ }
+{}
+
+// The contract of a program's output allows one length and one buffer for each output.
+pub fn outputs_are_settled()
+    ensures { λ r. ⌜ OutputSettled ⌝ }
+{}
+
+// Where the buffer has room for it, its front is the output.
+pub fn outputs_are_whole()
+    ensures { λ r. ⌜ OutputWhole ⌝ }
 {}

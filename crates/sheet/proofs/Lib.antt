@@ -1,3 +1,4 @@
 pub mod Listing
 pub mod Lengths
 pub mod Reports
+pub mod Outputs

@@ -1,33 +1,53 @@
--- What each function for C answers: the answer of the room's own function, as a word, and the numbers that are read. Assumes nothing.
+-- What each function for C answers: the answer of the room's own function, as a word, and the numbers that are read; and that
+-- all of it comes out of the word again, within the header's bounds. Assumes nothing.
+use mathlib.Core.Path.{_≡_}
 use mathlib.Core.Bool.{cond}
 use mathlib.Core.List.{List}
-use Prim.Native.Nat.{ℕ}
+use Prim.Native.Nat.{ℕ, _-_, _^_, _≤_, min}
 use lib.Dec.{eqb}
 use lib.ListN.{length}
 use Rattle.octets.specs.Bytes.{AllBytes}
+use Rattle.rules.specs.Limits.{turnLimit}
 use Rattle.sheet.specs.declared.Reported.{Reported}
 use Rattle.sheet.specs.Report.{reportOf}
 use Rattle.runfile.specs.declared.WriteAnswer.{WriteAnswer}
-use Rattle.runfile.specs.Reading.{readOf}
+use Rattle.runfile.specs.Reading.{longest, readOf}
 use Rattle.runfile.specs.Writing.{writeOf}
 use Rattle.runtext.specs.declared.Printed.{Printed}
 use Rattle.runtext.specs.Text.{printOf}
 use Rattle.drafting.specs.declared.Parsed.{Parsed}
 use Rattle.drafting.specs.Parse.{parseOf}
-use Rattle.stepbench.specs.Word.{wordOf, Apart}
+use Rattle.stepbench.specs.Word.{answerWord, Apart}
+
+-- the largest K that a word holds, 16,777,215
+abbrev pub lastLine : ℕ
+lastLine = 2 ^ 24 - 1
+
+-- the header's STEPBENCH_REPORT_ROOM, STEPBENCH_TEXT_ROOM and STEPBENCH_FILE_ROOM
+abbrev pub reportRoom : ℕ
+reportRoom = 40960
+
+abbrev pub textRoom : ℕ
+textRoom = 153635
+
+abbrev pub fileRoom : ℕ
+fileRoom = longest
 
 abbrev pub reportedWord : Reported → ℕ
-reportedWord r = wordOf (r .refused) (r .k) (r .len)
+reportedWord r = answerWord (r .refused) (r .k) (r .len)
 
 abbrev pub printedWord : Printed → ℕ
-printedWord r = wordOf (r .refused) (r .k) (r .len)
+printedWord r = answerWord (r .refused) (r .k) (r .len)
 
--- what was expected, and the line
+-- what was expected, and the line; one that does not fit is told as the largest that does
+abbrev pub lineTold : ℕ → ℕ
+lineTold line = min line lastLine
+
 abbrev pub parsedWord : Parsed → ℕ
-parsedWord r = wordOf (r .expected) (r .line) (r .len)
+parsedWord r = answerWord (r .expected) (lineTold (r .line)) (r .len)
 
 abbrev pub writtenWord : WriteAnswer → ℕ
-writtenWord r = wordOf (r .refused) (r .k) (r .len)
+writtenWord r = answerWord (r .refused) (r .k) (r .len)
 
 abbrev pub reportWord : List ℕ → List ℕ → ℕ
 reportWord file out = reportedWord (reportOf file (length out))
@@ -43,7 +63,7 @@ writeWord n table turns out = writtenWord (writeOf n table turns (length out))
 
 -- reading writes no bytes: its length is 0
 abbrev pub readWord : List ℕ → ℕ
-readWord file = wordOf (readOf file .refused) (readOf file .k) 0
+readWord file = answerWord (readOf file .refused) (readOf file .k) 0
 
 -- a lent number afterwards: what was read, or as it was where the file is refused
 abbrev pub numberLeft : List ℕ → ℕ → ℕ → ℕ
@@ -61,13 +81,23 @@ qLeft file before = numberLeft file before (readOf file .q)
 abbrev pub tLeft : List ℕ → ℕ → ℕ
 tLeft file before = numberLeft file before (readOf file .t)
 
--- of each answer: what was put into its word comes out of it
-abbrev pub Told : ℕ → ℕ → ℕ → Type 0
-Told n k len = Apart (wordOf n k len) n k len
+-- of an answer: what was put into its word comes out of it, N is at most 14, K and the length are at most as large as said;
+-- without a refusal K is 0, and with one the length is
+pub record ComesApart (n k len mostK room : ℕ) : Type 0 where
+  pub apart : Apart (answerWord n k len) n k len
+  pub number : n ≤ 14
+  pub which : k ≤ mostK
+  pub bytes : len ≤ room
+  pub noK : n ≡ 0 → k ≡ 0
+  pub noBytes : (n ≡ 0 → ⊥) → len ≡ 0
 
 pub record AnswersComeApart : Type 0 where
-  pub report : (file : List ℕ) (room : ℕ) → AllBytes file → Told (reportOf file room .refused) (reportOf file room .k) (reportOf file room .len)
-  pub print : (file : List ℕ) (room : ℕ) → AllBytes file → Told (printOf file room .refused) (printOf file room .k) (printOf file room .len)
+  pub report : (file : List ℕ) (room : ℕ) → AllBytes file
+      → ComesApart (reportOf file room .refused) (reportOf file room .k) (reportOf file room .len) turnLimit reportRoom
+  pub print : (file : List ℕ) (room : ℕ) → AllBytes file
+      → ComesApart (printOf file room .refused) (printOf file room .k) (printOf file room .len) turnLimit textRoom
+  pub parse : (text : List ℕ) (room : ℕ)
+      → ComesApart (parseOf text room .expected) (lineTold (parseOf text room .line)) (parseOf text room .len) lastLine fileRoom
   pub write : (n : ℕ) (table turns : List ℕ) (room : ℕ)
-      → Told (writeOf n table turns room .refused) (writeOf n table turns room .k) (writeOf n table turns room .len)
-  pub read : (file : List ℕ) → Told (readOf file .refused) (readOf file .k) 0
+      → ComesApart (writeOf n table turns room .refused) (writeOf n table turns room .k) (writeOf n table turns room .len) turnLimit fileRoom
+  pub read : (file : List ℕ) → ComesApart (readOf file .refused) (readOf file .k) 0 turnLimit 0

@@ -5,12 +5,12 @@ ghost use Rattle.sheet.specs.Report.{reportedOn};
 ghost use Rattle.runfile.specs.Writing.{outOf};
 ghost use Rattle.runtext.specs.Text.{printedOn};
 ghost use Rattle.drafting.specs.Parse.{parsedOn};
-ghost use Rattle.stepbench.specs.Word.{wordOf, WordsComeApart};
-ghost use Rattle.stepbench.specs.Answer.{reportWord, printWord, parseWord, writeWord, readWord, xLeft, nLeft, qLeft, tLeft, AnswersComeApart};
+ghost use Rattle.stepbench.specs.Word.{answerWord, WordsComeApart};
+ghost use Rattle.stepbench.specs.Answer.{lineTold, reportWord, printWord, parseWord, writeWord, readWord, xLeft, nLeft, qLeft, tLeft, AnswersComeApart};
 
 // A refusal, its K and a length in one word.
 fn word(refused: u32, k: usize, len: usize) -> u64
-    ensures { λ r. ⌜ r ≡ wordOf refused k len ⌝ }
+    ensures { λ r. ⌜ r ≡ answerWord refused k len ⌝ }
 {
     let n = (refused % 256) as u64;
     let k = (k % 16777216) as u64;
@@ -38,6 +38,16 @@ pub extern "C" fn stepbench_print(file: &[u8], out: &mut [u8]) -> u64
     word(printed.refused, printed.k, printed.len)
 }
 
+// A line number that does not fit into a word is told as the largest that does.
+fn line_told(line: usize) -> usize
+    ensures { λ r. ⌜ r ≡ lineTold line ⌝ }
+{
+    if line < 16777215 {
+        return line;
+    }
+    16777215
+}
+
 // A text as a run file; the word has what was expected for its refusal, and the line for its K.
 #[no_mangle]
 pub extern "C" fn stepbench_parse(text: &[u8], out: &mut [u8]) -> u64
@@ -45,7 +55,7 @@ pub extern "C" fn stepbench_parse(text: &[u8], out: &mut [u8]) -> u64
     ensures { λ _. ⌜ now (out .exit) ≡ parsedOn (now (text .entry)) (now (out .entry)) ⌝ }
 {
     let parsed = drafting::parse(text, out);
-    word(parsed.expected, parsed.line, parsed.len)
+    word(parsed.expected, line_told(parsed.line), parsed.len)
 }
 
 // A run file of x, n, a call table and turns.
@@ -90,7 +100,7 @@ pub fn words_come_apart()
     ensures { λ r. ⌜ WordsComeApart ⌝ }
 {}
 
-// All that these functions answer fits into a word; a text of more than 16,777,215 lines may be refused at one whose number does not.
+// All that these functions answer comes out of its word again, and keeps the bounds that the header states.
 pub fn answers_come_apart()
     ensures { λ r. ⌜ AnswersComeApart ⌝ }
 {}

@@ -1,11 +1,12 @@
 use borrow.Author.Needs.{needs}
 use borrow.Author.Tests.{ne-eqb}
+use Rattle.script.specs.Decimal.{digitsIn, decimal}
 use Rattle.messages.specs.Complaint.{wordsFor}
 use Rattle.messages.proofs.put_words.Statement.{statement}
 use Rattle.messages.proofs.put_words.Tie as tie
 
 pub put-words-spec : {M : Type 1} → statement M
-unfolding wordsFor
+unfolding wordsFor decimal digitsIn
 put-words-spec =
     tie.close
     (tie.spec

@@ -50,6 +50,7 @@ number-spec =
     (λ c. search needs)
     (λ c. search needs)
     (λ c κs. search needs)
+    (λ c. search needs)
     (λ c. record { fits = omega (arith, next-fits c) })
     (λ c. record { fits = next-fits c })
     (λ c. search needs)

@@ -10,7 +10,9 @@ stepbench-parse-spec =
     (tie.spec
     (λ c κs. search needs)
     (λ c κs. search needs)
+    (λ c κs. search needs)
     (λ c. search needs)
     (λ c.
-    let r = c .before .before .before .parse .ensures in
-    (c .word .ensures ∙ ap parsedWord (r .answered), r .left)))
+    let l = c .before in
+    let r = l .before .before .before .parse .ensures in
+    (c .word .ensures ∙ rw (l .line-told .ensures) (ap parsedWord (r .answered)), r .left)))

@@ -1,6 +1,6 @@
 use borrow.Author.Needs.{needs}
 use Rattle.script.proofs.Writes.{andThen}
-use Rattle.drafting.specs.Draft.{recordBytes}
+use Rattle.runfile.specs.Layout.{recordBytes}
 use Rattle.drafting.proofs.gathering.put_record.Statement.{statement}
 use Rattle.drafting.proofs.gathering.put_record.Tie as tie
 

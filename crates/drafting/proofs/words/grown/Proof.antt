@@ -9,6 +9,7 @@ grown-spec =
     tie.close
     (tie.spec
     (λ c κs. search needs)
+    (λ c. search needs)
     (λ c κs. search needs)
     (λ c κs. search needs)
     (λ c. simp (c .before .code-more .ensures, c .number-more .ensures, c .before .before .wide .ensures)))

@@ -7,7 +7,7 @@ use lib.Dec.{ltb}
 use lib.ListN.{length, length-take, length-drop}
 use Rattle.rules.proofs.Facts.{or-none}
 use Rattle.runfile.specs.Layout.{part, trailerOf}
-use Rattle.runfile.specs.Reading.{trailerAt, readOf}
+use Rattle.runfile.specs.Reading.{longest, trailerAt, readOf}
 use Rattle.runfile.proofs.Answers.{refuses, gives}
 use Rattle.runfile.proofs.reading.read.Statement.{statement}
 use Rattle.runfile.proofs.reading.read.Tie as tie
@@ -16,7 +16,7 @@ use Rattle.runfile.proofs.reading.read.Tie as tie
 long : (c : tie.Else1) → 16 ≤ length (c .before .before .args .file .now)
 long c =
     let l = length (c .before .before .args .file .now) in
-    ltb-false l 16 (or-none (ltb l 16) (ltb 53264 l) (c .if1 .left) .0)
+    ltb-false l 16 (or-none (ltb l 16) (ltb longest l) (c .if1 .left) .0)
 
 last : (l : ℕ) → 16 ≤ l → l - (l - 16) ≡ 16
 last l h = omega arith

@@ -1,20 +1,13 @@
 use borrow.Author.Needs.{needs}
-use native.Mathlib.Omega.{arith}
-use native.Mathlib.Nat.{add-sub-cancel-left}
-use Rattle.runfile.proofs.Answers.{Inside, inside}
+use mathlib.Core.Path.{_∙_, ap}
+use Rattle.runfile.specs.Layout.{part}
 use Rattle.runfile.proofs.reading.turns.Statement.{statement}
 use Rattle.runfile.proofs.reading.turns.Tie as tie
-
-fit : (c : tie.After-struct-known) → Inside (c .before .before .before .args .file .now) (c .before .read .result)
-fit c = rw (c .before .read .ensures) (inside (c .before .before .before .args .file .now))
 
 pub turns-spec : {M : Type 1} → statement M
 turns-spec =
     tie.close
     (tie.spec
     (λ c κs. search needs)
-    (λ c. omega (arith, fit c .turns))
-    (λ c. search needs)
-    (λ c. search needs)
-    (λ c. omega (arith, fit c .turns))
-    (λ c. simp (c .before .before .read .ensures, add-sub-cancel-left)))
+    (λ c κs. search needs)
+    (λ c. c .part .ensures ∙ ap (λ r. part (c .before .before .before .args .file .now) (r .middle) (r .t)) (c .before .read .ensures)))
