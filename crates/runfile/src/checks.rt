@@ -1,5 +1,6 @@
 // The refusals that reader and writer share: 3 to 6 of the numbers, 7 and 8 of the calls and turns.
 ghost use mathlib.Core.Path.{_≡_};
+ghost use mathlib.Core.Bool.{false};
 ghost use lib.ListN.{length};
 ghost use Rattle.rules.specs.Row.{verdictOf};
 ghost use Rattle.runfile.specs.Reading.{badCall, firstCall, firstTurn, limitRows, partRows};
@@ -42,8 +43,26 @@ fn first_call(n: u32, table: &[u8]) -> usize
     0
 }
 
-// The first bad turn, from 1; 0 where all are good.
-fn first_turn(n: u32, turns: &[u8]) -> usize
+// Whether a turn may be bad. Every turn is looked at, so that the compiler can take many at a time; where it says no, none is.
+fn may_be_bad(n: u32, turns: &[u8]) -> bool
+    ensures { λ r. ⌜ (r ≡ false → firstTurn n (now (turns .entry)) ≡ 0) ⌝ }
+{
+    if 255 <= n {
+        return true;
+    }
+    let most = n as u8;
+    let mut bad = false;
+    let mut turn = 0;
+    while turn < turns.len() {
+        let b = turns[turn];
+        bad = bad | ((b == 0) | (most < b));
+        turn = turn + 1;
+    }
+    bad
+}
+
+// The first bad turn, from 1; 0 where all are good. The search stops there.
+fn search_turns(n: u32, turns: &[u8]) -> usize
     ensures { λ r. ⌜ r ≡ firstTurn n (now (turns .entry)) ⌝ }
 {
     let mut turn = 0;
@@ -53,6 +72,16 @@ fn first_turn(n: u32, turns: &[u8]) -> usize
             return turn + 1;
         }
         turn = turn + 1;
+    }
+    0
+}
+
+// The same; only where one may be bad is it searched for.
+fn first_turn(n: u32, turns: &[u8]) -> usize
+    ensures { λ r. ⌜ r ≡ firstTurn n (now (turns .entry)) ⌝ }
+{
+    if may_be_bad(n, turns) {
+        return search_turns(n, turns);
     }
     0
 }
