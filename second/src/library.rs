@@ -1,82 +1,77 @@
-//! The bench's report as a function of the static library, and the buffer lent to it.
-//! The meaning of the returned number is in `Answer::of` alone.
+//! The bench's static library: report, print and parse, each on a lent buffer with guard bytes on both sides. It is linked
+//! (feature `library`), or stands behind serve.c.
 
-use crate::report::ENOUGH;
+#[cfg(feature = "library")]
+use crate::linked::Lent;
 use crate::runfile::Refusal;
+#[cfg(not(feature = "library"))]
+use crate::served::Lent;
 
-extern "C" {
-    pub fn stepbench_report(file: *const u8, file_len: usize, out: *mut u8, out_len: usize) -> u64;
+/// A function of the library.
+#[derive(Clone, Copy)]
+pub enum Function {
+    Report,
+    Print,
+    Parse,
 }
 
-const GUARD: usize = 64;
-const UNTOUCHED: u8 = 0xa5;
-
-enum Answer {
-    Refused(Refusal),
-    Length(usize),
-}
-
-impl Answer {
-    /// Bits 63 to 56 are N of a refusal or 0, bits 55 to 32 its K, bits 31 to 0 the text's length.
-    fn of(number: u64) -> Result<Answer, String> {
-        let refusal = Refusal { number: (number >> 56) as u32, k: (number >> 32) as u32 & 0xff_ffff };
-        match (refusal.number, number as u32) {
-            (0, length) if refusal.k == 0 => Ok(Answer::Length(length as usize)),
-            (1.., 0) => Ok(Answer::Refused(refusal)),
-            _ => Err(format!("the library gave {number:#018x}")),
+impl Function {
+    /// A buffer of this many bytes is always enough.
+    fn enough(self) -> usize {
+        match self {
+            Function::Report => 40_960,
+            Function::Print => 153_635,
+            Function::Parse => 53_264,
         }
     }
 }
 
-/// A buffer with guard bytes on both sides; whole again after each call.
-pub struct Lent {
-    bytes: Vec<u8>,
+/// The returned word and the output.
+pub type Raw = (u64, Vec<u8>);
+
+/// What is told where a byte changed that the output doesn't have.
+pub const OUTSIDE: &str = "a byte outside the output changed";
+
+pub struct Library {
+    lent: Lent,
 }
 
-impl Default for Lent {
-    fn default() -> Lent {
-        Lent { bytes: vec![UNTOUCHED; GUARD + ENOUGH + GUARD] }
+impl Library {
+    /// The library, if it is linked or its server is there.
+    pub fn find() -> Option<Library> {
+        Lent::find().map(|lent| Library { lent })
     }
-}
 
-impl Lent {
-    /// The printed report, or the line of the refusal. A buffer of just the report's length gives
-    /// the same, and a shorter one is refused 14.
-    pub fn report(&mut self, file: &[u8]) -> Result<Vec<u8>, String> {
-        let text = match self.call(file, ENOUGH)? {
-            Ok(text) => text,
-            Err(refusal) => return Ok(refusal.line().into_bytes()),
+    /// What a function gives: its output or its refusal, of which K is 0 or the line. A buffer of just the
+    /// output's length must give the same, and a shorter one be refused 14.
+    pub fn whole(&mut self, what: Function, input: &[u8]) -> Result<Result<Vec<u8>, Refusal>, String> {
+        let out = match self.once(what, input, what.enough())? {
+            Ok(out) => out,
+            Err(refusal) => return Ok(Err(refusal)),
         };
-        if self.call(file, text.len())? != Ok(text.clone()) {
-            return Err("a buffer of the report's length gives something else".into());
+        if self.once(what, input, out.len())?.as_ref() != Ok(&out) {
+            return Err("a buffer of the output's length gives something else".into());
         }
         let short = Err(Refusal { number: 14, k: 0 });
-        if !text.is_empty() && self.call(file, text.len() - 1)? != short {
-            return Err("a buffer shorter than the report is not refused 14".into());
+        if !out.is_empty() && self.once(what, input, out.len() - 1)? != short {
+            return Err("a buffer shorter than the output is not refused 14".into());
         }
-        Ok(text)
+        Ok(Ok(out))
     }
 
-    /// One call with a buffer of `room` bytes. No other byte than the output's may change.
-    fn call(&mut self, file: &[u8], room: usize) -> Result<Result<Vec<u8>, Refusal>, String> {
-        let out = self.bytes[GUARD..GUARD + room].as_mut_ptr();
-        // SAFETY: both pointers are to that many bytes, and they don't overlap.
-        let number = unsafe { stepbench_report(file.as_ptr(), file.len(), out, room) };
-        let answer = Answer::of(number)?;
-        let length = match answer {
-            Answer::Length(length) if length > room => return Err("longer than the buffer".into()),
-            Answer::Length(length) => length,
-            Answer::Refused(_) => 0,
-        };
-        let text = self.bytes[GUARD..GUARD + length].to_vec();
-        self.bytes[GUARD..GUARD + length].fill(UNTOUCHED);
-        if self.bytes.iter().any(|&byte| byte != UNTOUCHED) {
-            self.bytes.fill(UNTOUCHED);
-            return Err("a byte outside the output changed".into());
+    /// Bits 63 to 56 of the word are N of a refusal or 0, bits 55 to 32 its K, bits 31 to 0 the output's length.
+    fn once(
+        &mut self,
+        what: Function,
+        input: &[u8],
+        room: usize,
+    ) -> Result<Result<Vec<u8>, Refusal>, String> {
+        let (word, out) = self.lent.call(what, input, room)?;
+        let refusal = Refusal { number: (word >> 56) as u32, k: (word >> 32) as u32 & 0xff_ffff };
+        match (refusal.number, word as u32 as usize) {
+            (0, length) if refusal.k == 0 && length == out.len() => Ok(Ok(out)),
+            (1.., 0) => Ok(Err(refusal)),
+            _ => Err(format!("the library gave {word:#018x}")),
         }
-        Ok(match answer {
-            Answer::Refused(refusal) => Err(refusal),
-            Answer::Length(_) => Ok(text),
-        })
     }
 }

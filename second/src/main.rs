@@ -3,15 +3,20 @@
 mod card;
 mod check;
 mod compare;
+mod contend;
+mod contention;
 mod counts;
 mod damage;
 mod decorate;
+mod difference;
 mod fault;
 mod faults;
-#[cfg(feature = "library")]
 mod library;
+#[cfg(feature = "library")]
+mod linked;
 mod machine;
 mod make;
+mod naive;
 mod other;
 mod parse;
 mod random;
@@ -19,14 +24,19 @@ mod report;
 mod run;
 mod runfile;
 mod search;
+#[cfg(not(feature = "library"))]
+mod served;
 #[cfg(feature = "library")]
 mod speed;
 #[cfg(test)]
 mod tests;
 mod text;
 mod texts;
+mod values;
+mod wrong;
 
-use compare::{Comparison, Difference};
+use compare::Comparison;
+use difference::Difference;
 use random::Random;
 use std::io::{Read, Write};
 use std::process::ExitCode;
@@ -35,7 +45,7 @@ use text::LONGEST_TEXT;
 const HELP: &str = "usage: second report < FILE      the report of a run file
        second read < FILE        a run file as text
        second write < TEXT       a text as a run file
-       second make SEED KIND     a random file: run, tiny, largest, widest, damaged,
+       second make SEED KIND     a random file: run, tiny, deepest, largest, widest, damaged,
                                  sweep (file SEED of the cuts and changes), text or slip
        second compare [RUNS [DAMAGED]]   against the bench's programs
        second faults [RUNS]      the planted faults
@@ -108,6 +118,7 @@ fn make_one(seed: u64, kind: &str) -> ExitCode {
     match kind {
         "run" => say(&make::run(&mut random)),
         "tiny" => say(&make::tiny(&mut random)),
+        "deepest" => say(&make::deepest(&mut random)),
         "largest" => say(&make::largest(&mut random)),
         "widest" => say(&make::widest()),
         "damaged" => say(&damage::random(&mut random)),
@@ -131,8 +142,12 @@ fn compare_all(runs: u64, damaged: u64) -> ExitCode {
     if let Err(difference) = comparison.all(runs, damaged) {
         return show(&difference);
     }
-    let (line, whole) = comparison.line();
-    say((line + "\n").as_bytes());
+    let (lines, whole) = comparison.lines();
+    say(lines.as_bytes());
+    let seldom = comparison.too_seldom();
+    if !seldom.is_empty() {
+        return complain(&(seldom.join("\n") + "\n"));
+    }
     if !whole {
         complain("not all compared: report, read_run or write_run is not built in target/bin\n");
         return ExitCode::from(2);

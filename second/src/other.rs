@@ -1,5 +1,6 @@
 //! The bench's own programs, reached as processes, and its report also through the static library.
 
+use crate::library::{Function, Library};
 use std::fs::File;
 use std::path::{Path, PathBuf};
 use std::process::{Command, Stdio};
@@ -20,6 +21,22 @@ pub struct Wrote {
 pub struct Program {
     path: PathBuf,
     input: PathBuf,
+    /// What runs it on a machine that can't: SECOND_UNDER.
+    under: Vec<String>,
+}
+
+/// About this many runs, and as many damaged files, go through the bench's programs: a process takes a
+/// millisecond or two, and under an emulator twenty.
+pub fn sample() -> u64 {
+    if under().is_empty() {
+        500
+    } else {
+        50
+    }
+}
+
+fn under() -> Vec<String> {
+    std::env::var("SECOND_UNDER").map_or(Vec::new(), |line| line.split(' ').map(String::from).collect())
 }
 
 impl Program {
@@ -27,13 +44,16 @@ impl Program {
     pub fn find(name: &str) -> Option<Program> {
         let path = top().join("target/bin").join(name);
         let input = top().join(format!("target/second/input-{}", std::process::id()));
-        path.is_file().then_some(Program { path, input })
+        path.is_file().then(|| Program { path, input, under: under() })
     }
 
     pub fn run(&self, input: &[u8]) -> Result<Wrote, String> {
         let told = |error: std::io::Error| format!("{}: {error}", self.path.display());
         std::fs::write(&self.input, input).map_err(told)?;
-        let output = Command::new(&self.path)
+        let path = self.path.as_os_str();
+        let mut words = self.under.iter().map(|word| word.as_ref()).chain([path]);
+        let output = Command::new(words.next().unwrap_or(path))
+            .args(words)
             .stdin(Stdio::from(File::open(&self.input).map_err(told)?))
             .output()
             .map_err(told)?;
@@ -50,25 +70,19 @@ impl Drop for Program {
 /// The two ways to the bench's report.
 pub enum Other {
     Process(Program),
-    #[cfg(feature = "library")]
-    Library(Box<crate::library::Lent>),
+    Library(Library),
 }
 
 impl Other {
-    /// The ways that are there: the library where it is linked, the program where it is built.
+    /// The ways that are there: the library where it is linked or served, the program where it is built.
     pub fn find() -> Vec<Other> {
-        let process = Program::find("report").map(Other::Process);
-        #[cfg(feature = "library")]
-        let library = Some(Other::Library(Box::default()));
-        #[cfg(not(feature = "library"))]
-        let library = None;
-        library.into_iter().chain(process).collect()
+        let library = Library::find().map(Other::Library);
+        library.into_iter().chain(Program::find("report").map(Other::Process)).collect()
     }
 
     pub fn name(&self) -> &'static str {
         match self {
             Other::Process(_) => "process",
-            #[cfg(feature = "library")]
             Other::Library(_) => "library",
         }
     }
@@ -77,8 +91,10 @@ impl Other {
     pub fn report(&mut self, file: &[u8]) -> Result<Vec<u8>, String> {
         match self {
             Other::Process(program) => Ok(program.run(file)?.out),
-            #[cfg(feature = "library")]
-            Other::Library(lent) => lent.report(file),
+            Other::Library(library) => Ok(match library.whole(Function::Report, file)? {
+                Ok(report) => report,
+                Err(refusal) => refusal.line().into_bytes(),
+            }),
         }
     }
 }

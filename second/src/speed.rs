@@ -1,6 +1,6 @@
 //! Both reports of one file, side by side: for bench/speed, which counts instructions inside the two functions named here.
 
-use crate::library::stepbench_report;
+use crate::linked::stepbench_report;
 use crate::report::{report, ENOUGH};
 use std::hint::black_box;
 use std::time::{Duration, Instant};
