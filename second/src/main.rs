@@ -1,5 +1,6 @@
 //! The second program: document 01's report written a second time, and its comparison with the bench.
 
+mod bench;
 mod card;
 mod check;
 mod compare;
@@ -19,6 +20,8 @@ mod make;
 mod naive;
 mod other;
 mod parse;
+mod probe;
+mod probes;
 mod random;
 mod report;
 mod run;
@@ -30,6 +33,8 @@ mod served;
 mod speed;
 #[cfg(test)]
 mod tests;
+#[cfg(test)]
+mod tests_probe;
 mod text;
 mod texts;
 mod values;
@@ -49,6 +54,8 @@ const HELP: &str = "usage: second report < FILE      the report of a run file
                                  sweep (file SEED of the cuts and changes), text or slip
        second compare [RUNS [DAMAGED]]   against the bench's programs
        second faults [RUNS]      the planted faults
+       second probe < CASES      a turn of each bench given in numbers (docs/PROBE.md)
+       second probes SEED COUNT  cases for it
        second speed [ROUNDS] < FILE      both reports of a file, timed; wants the library
 ";
 
@@ -72,6 +79,8 @@ fn main() -> ExitCode {
             say(text.as_bytes());
             ExitCode::from(u8::from(!all_caught))
         }
+        (["probe"], ..) => say(probe::probe(&all_input()).as_bytes()),
+        (["probes", _, _], Some(seed), Some(count)) => say(probes::probes(seed, count).as_bytes()),
         #[cfg(feature = "library")]
         (["speed"] | ["speed", _], Some(rounds), _) => match speed::speed(&input(), rounds as usize) {
             Ok(line) => say((line + "\n").as_bytes()),
@@ -83,8 +92,17 @@ fn main() -> ExitCode {
 
 /// Standard input, but no more than a byte over the longest text; run files are shorter.
 fn input() -> Vec<u8> {
+    taken(LONGEST_TEXT as u64 + 1)
+}
+
+/// The whole of standard input.
+fn all_input() -> Vec<u8> {
+    taken(u64::MAX)
+}
+
+fn taken(most: u64) -> Vec<u8> {
     let mut bytes = Vec::new();
-    if let Err(error) = std::io::stdin().take(LONGEST_TEXT as u64 + 1).read_to_end(&mut bytes) {
+    if let Err(error) = std::io::stdin().take(most).read_to_end(&mut bytes) {
         eprintln!("standard input: {error}");
         std::process::exit(2);
     }
