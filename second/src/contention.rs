@@ -11,9 +11,15 @@ pub struct Contention {
     past_5: u64,
     /// Raises with no loser, 1, 2 or 3, 4 to 7, 8 to 15, 16 to 31.
     losers: [u64; 6],
+    most_losers: usize,
     moved: u64,
     runs_moved: u64,
+    /// Turns by place before which V was raised twice or more.
+    late: [u64; 21],
 }
+
+/// The places that a station can stop at.
+const PLACES: [usize; 9] = [11, 12, 13, 14, 15, 16, 18, 19, 20];
 
 impl Contention {
     pub fn take(&mut self, seen: &Seen) {
@@ -23,6 +29,10 @@ impl Contention {
         self.past_5 += seen.past_5 as u64;
         for &losers in &seen.losers {
             self.losers[(usize::BITS - losers.leading_zeros()) as usize] += 1;
+            self.most_losers = self.most_losers.max(losers);
+        }
+        for (sum, late) in self.late.iter_mut().zip(seen.late) {
+            *sum += late as u64;
         }
         self.moved += seen.moved as u64;
         self.runs_moved += u64::from(seen.moved > 0);
@@ -41,19 +51,23 @@ impl Contention {
     }
 
     pub fn lines(&self) -> String {
+        let late: Vec<String> = PLACES.iter().map(|&place| format!("{place}:{}", self.late[place])).collect();
         let [none, once, some, many] = self.raises;
         let [alone, one, two, four, eight, sixteen] = self.losers;
         let part = |of: u64, all: u64| 100 * of / all.max(1);
         format!(
             "raises of V in {} runs: none {none}, once {once}, two or three {some}, four or more {many} ({}%)\n\
              calls begun {}, past place 5 {} ({}%)\n\
-             losers a raise: none {alone}, 1 {one}, 2 or 3 {two}, 4 to 7 {four}, 8 to 15 {eight}, 16 to 31 {sixteen}\n\
+             losers a raise: none {alone}, 1 {one}, 2 or 3 {two}, 4 to 7 {four}, 8 to 15 {eight}, 16 to 31 {sixteen}, most {}\n\
+             turns after V was raised twice or more, by place: {}\n\
              place 16 with an even seq and cp ≠ ca: {} turns, in {} runs ({}%)\n",
             self.runs,
             part(many, self.runs),
             self.begun,
             self.past_5,
             part(self.past_5, self.begun),
+            self.most_losers,
+            late.join(" "),
             self.moved,
             self.runs_moved,
             part(self.runs_moved, self.runs),

@@ -222,6 +222,8 @@ pub struct Seen {
     pub losers: Vec<usize>,
     /// Turns at place 16 with an even seq and cp ≠ ca.
     pub moved: usize,
+    /// Turns by place, 11 to 20, before which the station stood there while V was raised twice or more.
+    pub late: [usize; 21],
 }
 
 impl Record {
@@ -245,6 +247,19 @@ impl Record {
             past_5: past_5().count(),
             losers: losers.collect(),
             moved: moved.count(),
+            late: self.late(),
         }
+    }
+
+    fn late(&self) -> [usize; 21] {
+        let (mut late, mut seen, mut raises) = ([0; 21], [0; 33], 0);
+        for done in &self.turns {
+            if done.line > 5 && raises >= seen[done.station] + 2 {
+                late[usize::from(done.line)] += 1;
+            }
+            raises += usize::from(done.raised);
+            seen[done.station] = raises;
+        }
+        late
     }
 }

@@ -53,10 +53,11 @@ fn before(number: usize, random: &mut Random) -> String {
 
 /// A call too many, or none; the last line may be wrong in itself.
 fn many_calls(random: &mut Random) -> String {
-    let good = "1 read\n".repeat(MAX_CALLS - 1);
-    let last =
-        ["1 read", "1 read", "1 set 4 5", "1 swap 0 0", "1 set 4", "1 read 1", "1 x", "0 read", "turns 1"];
-    good + random.pick(&["1 read\n", "1 set 4 5\n"]) + random.pick(&last)
+    let before = "1 read\n".repeat(MAX_CALLS - 1);
+    let good_ones = ["1 read", "1 set 4 5", "1 swap 0 0"];
+    let bad_ones = ["1 set 4", "1 read 1", "1 x", "0 read", "turns 1"];
+    let last = if random.once_in(3) { random.pick(&bad_ones) } else { random.pick(&good_ones) };
+    before + random.pick(&["1 read\n", "1 set 4 5\n"]) + last
 }
 
 /// A turn too many, good or bad, or none.
