@@ -5,6 +5,7 @@ use crate::counts::Counts;
 use crate::damage::{self, Sweep};
 use crate::difference::Difference;
 use crate::fault;
+use crate::library::{Answer, Function};
 use crate::make;
 use crate::naive;
 use crate::other::{sample, top, Other};
@@ -13,6 +14,7 @@ use crate::report::{print, ENOUGH};
 use crate::run::run;
 use crate::runfile::read;
 use crate::texts::Texts;
+use crate::written::Written;
 use crate::{check, search};
 
 /// Of this many files, one goes through the library's print and parse.
@@ -21,6 +23,8 @@ const TEXT_IN: usize = 16;
 const NAIVE_LARGE: u64 = 5_000;
 /// So many texts are made for each complaint.
 const WRONG_TEXTS: u64 = 100;
+/// Of this many runs and damaged files, one is a case for the writer.
+const WRITER_IN: u64 = 8;
 
 /// How far a file goes: through the report alone, through the library's text functions, or through all programs.
 #[derive(Clone, Copy, PartialEq, PartialOrd)]
@@ -53,21 +57,30 @@ impl Depth {
 }
 
 pub struct Comparison {
-    /// The ways to the bench's report, and how many files went each.
-    others: Vec<(Other, u64)>,
+    other: Other,
+    by_library: u64,
+    by_process: u64,
     texts: Texts,
+    written: Written,
     counts: Counts,
     contention: Contention,
 }
 
 impl Comparison {
     pub fn new() -> Comparison {
-        let others = Other::find().into_iter().map(|other| (other, 0)).collect();
-        let (counts, contention) = (Counts::default(), Contention::default());
-        Comparison { others, texts: Texts::find(), counts, contention }
+        Comparison {
+            other: Other::find(),
+            by_library: 0,
+            by_process: 0,
+            texts: Texts::default(),
+            written: Written::default(),
+            counts: Counts::default(),
+            contention: Contention::default(),
+        }
     }
 
-    /// The stored runs, then `runs` random runs and `damaged` damaged files, and texts with each complaint.
+    /// The stored runs, then `runs` random runs and `damaged` damaged files, cases for the writer, and texts with each
+    /// complaint.
     pub fn all(&mut self, runs: u64, damaged: u64) -> Result<(), Difference> {
         self.stored()?;
         for seed in 0..runs {
@@ -91,7 +104,9 @@ impl Comparison {
             self.counts.damaged += 1;
             self.file(&file, &mut random, Depth::some(!seed, damaged))?;
         }
-        self.texts.complaints(WRONG_TEXTS, 1_250 / sample())
+        self.written.cases(&mut self.other, (runs + damaged) / WRITER_IN)?;
+        self.texts.complaints(&mut self.other, WRONG_TEXTS, 1_250 / sample())?;
+        self.other.end()
     }
 
     /// R1 to R8 of runs/: the report, the text, and the run file that the text tells.
@@ -119,17 +134,15 @@ impl Comparison {
     /// One file: its report by both programs, and demand 3 of the run; its text too, if it goes so far.
     /// Gives this program's report.
     fn file(&mut self, file: &[u8], random: &mut Random, depth: Depth) -> Result<Vec<u8>, Difference> {
-        let own = self.own(file)?;
-        let ways = if depth == Depth::Process { self.others.len() } else { 1 };
-        for (other, count) in self.others.iter_mut().take(ways) {
-            match other.report(file) {
-                Ok(theirs) if theirs == own => *count += 1,
-                Ok(theirs) => return Err(Difference::new("report", file, &own, &theirs)),
-                Err(told) => return Err(Difference::new(&told, file, &own, &[])),
-            }
+        let answer = self.own(file)?;
+        let own = answer.clone().unwrap_or_else(|refusal| refusal.line().into_bytes());
+        self.by_library += u64::from(self.other.gives(Function::Report, file, &answer)?);
+        self.written.read(&mut self.other, file)?;
+        if depth == Depth::Process {
+            self.by_process += u64::from(self.other.writes("report", file, (&own, &[]))?);
         }
         if depth >= Depth::Text {
-            self.texts.file(file, random, depth == Depth::Process)?;
+            self.texts.file(&mut self.other, file, random, depth == Depth::Process)?;
         }
         Ok(own)
     }
@@ -148,12 +161,12 @@ impl Comparison {
     }
 
     /// This program's report, counted and held against demand 3.
-    fn own(&mut self, file: &[u8]) -> Result<Vec<u8>, Difference> {
+    fn own(&mut self, file: &[u8]) -> Result<Answer, Difference> {
         let run_file = match read(file) {
             Ok(good) => good,
             Err(refusal) => {
                 self.counts.refused[refusal.number as usize] += 1;
-                return Ok(refusal.line().into_bytes());
+                return Ok(Err(refusal));
             }
         };
         let (book, machine) = run::<{ fault::NONE }>(&run_file);
@@ -173,23 +186,23 @@ impl Comparison {
                 return Err(Difference::new("demand 3: no order at all", file, &buffer, &[]));
             }
         }
-        Ok(buffer)
+        Ok(Ok(buffer))
     }
 
-    /// The lines of counts, and whether the bench's report and both text programs were there.
-    pub fn lines(&self) -> (String, bool) {
-        let mut text = self.counts.line();
-        for (other, count) in &self.others {
-            text += &format!(" report by {} {count}", other.name());
-        }
-        text = text + "\n" + &self.contention.lines() + &self.texts.lines();
-        (text, !self.others.is_empty() && self.texts.built())
+    /// The lines of counts.
+    pub fn lines(&self) -> String {
+        let reports = format!(" report by library {} by process {}\n", self.by_library, self.by_process);
+        let parts = [self.contention.lines(), self.texts.lines(), self.written.lines()];
+        self.counts.line() + &reports + &parts.concat()
+    }
+
+    /// What of the bench is not built.
+    pub fn missing(&self) -> Vec<String> {
+        self.other.missing()
     }
 
     /// What was met too seldom, a line each.
     pub fn too_seldom(&self) -> Vec<String> {
-        let mut told = self.contention.below_the_floor();
-        told.extend(self.texts.missed());
-        told
+        [self.contention.below_the_floor(), self.texts.missed(), self.written.missed()].concat()
     }
 }

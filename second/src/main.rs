@@ -12,9 +12,8 @@ mod decorate;
 mod difference;
 mod fault;
 mod faults;
+mod later;
 mod library;
-#[cfg(feature = "library")]
-mod linked;
 mod machine;
 mod make;
 mod naive;
@@ -27,9 +26,7 @@ mod report;
 mod run;
 mod runfile;
 mod search;
-#[cfg(not(feature = "library"))]
-mod served;
-#[cfg(feature = "library")]
+#[cfg(feature = "linked")]
 mod speed;
 #[cfg(test)]
 mod tests;
@@ -38,6 +35,7 @@ mod tests_probe;
 mod text;
 mod texts;
 mod values;
+mod written;
 mod wrong;
 
 use compare::Comparison;
@@ -56,7 +54,7 @@ const HELP: &str = "usage: second report < FILE      the report of a run file
        second faults [RUNS]      the planted faults
        second probe < CASES      a turn of each bench given in numbers (docs/PROBE.md)
        second probes SEED COUNT  cases for it
-       second speed [ROUNDS] < FILE      both reports of a file, timed; wants the library
+       second speed [ROUNDS] < FILE      both reports of a file, timed; x86-64 alone, and the library
 ";
 
 fn main() -> ExitCode {
@@ -81,7 +79,7 @@ fn main() -> ExitCode {
         }
         (["probe"], ..) => say(probe::probe(&all_input()).as_bytes()),
         (["probes", _, _], Some(seed), Some(count)) => say(probes::probes(seed, count).as_bytes()),
-        #[cfg(feature = "library")]
+        #[cfg(feature = "linked")]
         (["speed"] | ["speed", _], Some(rounds), _) => match speed::speed(&input(), rounds as usize) {
             Ok(line) => say((line + "\n").as_bytes()),
             Err(told) => complain(&(told + "\n")),
@@ -160,17 +158,17 @@ fn compare_all(runs: u64, damaged: u64) -> ExitCode {
     if let Err(difference) = comparison.all(runs, damaged) {
         return show(&difference);
     }
-    let (lines, whole) = comparison.lines();
-    say(lines.as_bytes());
+    say(comparison.lines().as_bytes());
     let seldom = comparison.too_seldom();
     if !seldom.is_empty() {
         return complain(&(seldom.join("\n") + "\n"));
     }
-    if !whole {
-        complain("not all compared: report, read_run or write_run is not built in target/bin\n");
-        return ExitCode::from(2);
+    let missing = comparison.missing();
+    if missing.is_empty() {
+        return ExitCode::SUCCESS;
     }
-    ExitCode::SUCCESS
+    complain(&format!("not all compared; not built: {}\n", missing.join(", ")));
+    ExitCode::from(2)
 }
 
 /// Saves the file and both outputs of a difference under target/, and shows it.

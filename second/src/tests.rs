@@ -172,3 +172,23 @@ fn all_calls_of_the_deepest_run_go_past_place_5() {
         assert!(seen.raises > 32);
     }
 }
+
+#[test]
+fn the_writer_refuses_by_the_lowest_number() {
+    let refused = |n, table: &[u8], turns: &[u8]| {
+        let told = runfile::write_parts(7, n, table, turns);
+        told.err().map_or((0, 0), |refusal| (refusal.number, refusal.k))
+    };
+    let read = [1, 0, 0, 0, 0, 0, 0, 0, 0, 0, 0, 0];
+    let (table, turns) = (read.repeat(1_025), vec![1; 40_961]);
+    assert_eq!(refused(256, &table, &turns), (3, 0));
+    assert_eq!(refused(33, &[], &[]), (3, 0));
+    assert_eq!(refused(1, &[table.clone(), vec![0; 5]].concat(), &turns), (4, 0));
+    assert_eq!(refused(1, &table[..12_299], &turns), (5, 0));
+    assert_eq!(refused(1, &table[..12_293], &turns[..40_960]), (6, 0));
+    assert_eq!(refused(1, &[&table[..24], &[2], &read[1..]].concat(), &[0]), (7, 3));
+    assert_eq!(refused(1, &table[..12_288], &[1, 1, 2]), (8, 3));
+    assert_eq!(refused(1, &table[..12_288], &turns[..40_960]), (0, 0));
+    let file = write(7, 1, &[set(1, 7, 8)], &[1, 1]);
+    assert_eq!(runfile::write_parts(7, 1, &file[..12], &file[12..14]), Ok(file));
+}
