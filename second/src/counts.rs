@@ -11,6 +11,7 @@ pub struct Counts {
     /// Refused files by number.
     pub refused: [u64; 15],
     pub searched: u64,
+    pub naive: u64,
     listed: u64,
     contests: u64,
     open: u64,
@@ -28,7 +29,7 @@ impl Counts {
     pub fn line(&self) -> String {
         let refused: Vec<String> = (1..9).map(|n| format!("{n}:{}", self.refused[n])).collect();
         format!(
-            "stored {} runs {} damaged {} refused {} listed {} contests {} open {} searched {}",
+            "stored {} runs {} damaged {} refused {} listed {} contests {} open {} searched {} naive {}",
             self.stored,
             self.runs,
             self.damaged,
@@ -37,6 +38,7 @@ impl Counts {
             self.contests,
             self.open,
             self.searched,
+            self.naive,
         )
     }
 }

@@ -59,8 +59,7 @@ const SLIPS: [&str; 22] = [
     "1 2",
 ];
 
-/// A text with one word changed, left out or put in, or cut short. It ends without a newline:
-/// docs/RUN-TEXT.md leaves open which line is the last where a text ends too early after one.
+/// A text with one word changed, left out or put in, or cut short, with a final newline or without.
 pub fn spoil(text: &str, random: &mut Random) -> String {
     let mut words: Vec<&str> = text.split_inclusive([' ', '\n']).collect();
     let at = random.below(words.len());
@@ -73,5 +72,10 @@ pub fn spoil(text: &str, random: &mut Random) -> String {
         2 => words.insert(at, &slip),
         _ => words[at] = &slip,
     }
-    words.concat().trim_end_matches('\n').into()
+    let slipped = words.concat();
+    match random.below(3) {
+        0 => slipped.trim_end_matches('\n').into(),
+        1 => slipped + "\n",
+        _ => slipped,
+    }
 }

@@ -1,82 +1,171 @@
-//! The bench's report as a function of the static library, and the buffer lent to it.
-//! The meaning of the returned number is in `Answer::of` alone.
+//! The bench's static library behind its server (tools/serve/serve.c), on every machine. What each function must give is
+//! known before it is asked, so requests are sent ahead, and a thread reads the answers.
 
-use crate::report::ENOUGH;
+use crate::difference::Difference;
+use crate::later::Later;
+use crate::other::{started, top};
+use crate::random::Random;
 use crate::runfile::Refusal;
+use std::io::{BufReader, Read, Write};
+use std::process::{Child, ChildStdin, ChildStdout, Stdio};
 
-extern "C" {
-    pub fn stepbench_report(file: *const u8, file_len: usize, out: *mut u8, out_len: usize) -> u64;
+/// A function of the library.
+#[derive(Clone, Copy, PartialEq)]
+pub enum Function {
+    Report,
+    Print,
+    Parse,
+    Write { x: u32, n: u32 },
+    Read,
 }
 
-const GUARD: usize = 64;
-const UNTOUCHED: u8 = 0xa5;
+/// What a function gives: its output or its refusal. The output of `Read` is x, n, q and t as the server writes them.
+pub type Answer = Result<Vec<u8>, Refusal>;
 
-enum Answer {
-    Refused(Refusal),
-    Length(usize),
-}
+/// The bytes that `Read` gives.
+const NUMBERS: usize = 24;
 
-impl Answer {
-    /// Bits 63 to 56 are N of a refusal or 0, bits 55 to 32 its K, bits 31 to 0 the text's length.
-    fn of(number: u64) -> Result<Answer, String> {
-        let refusal = Refusal { number: (number >> 56) as u32, k: (number >> 32) as u32 & 0xff_ffff };
-        match (refusal.number, number as u32) {
-            (0, length) if refusal.k == 0 => Ok(Answer::Length(length as usize)),
-            (1.., 0) => Ok(Answer::Refused(refusal)),
-            _ => Err(format!("the library gave {number:#018x}")),
+impl Function {
+    /// The letter of a request, the function's name, and how many bytes are always enough for its output.
+    fn known(self) -> (u8, &'static str, usize) {
+        match self {
+            Function::Report => (b'r', "report", 40_960),
+            Function::Print => (b'p', "print", 153_635),
+            Function::Parse => (b't', "parse", 53_264),
+            Function::Write { .. } => (b'w', "write", 53_264),
+            Function::Read => (b'd', "read", 0),
+        }
+    }
+
+    /// Bits 63 to 56 of the word are N of a refusal or 0, bits 55 to 32 its K, bits 31 to 0 the output's length.
+    /// A buffer shorter than the output is refused 14, and `Read` writes to none.
+    fn expected(self, own: &Answer, room: usize) -> (u64, Vec<u8>) {
+        let refused = |refusal: Refusal| u64::from(refusal.number) << 56 | u64::from(refusal.k) << 32;
+        match (self, own) {
+            (Function::Read, Ok(numbers)) => (0, numbers.clone()),
+            (Function::Read, Err(refusal)) => (refused(*refusal), vec![0; NUMBERS]),
+            (_, Err(refusal)) => (refused(*refusal), Vec::new()),
+            (_, Ok(out)) if room < out.len() => (refused(Refusal { number: 14, k: 0 }), Vec::new()),
+            (_, Ok(out)) => (out.len() as u64, out.clone()),
         }
     }
 }
 
-/// A buffer with guard bytes on both sides; whole again after each call.
-pub struct Lent {
-    bytes: Vec<u8>,
+/// A function asked with its input, once for each of the buffers lent.
+struct Asked {
+    function: Function,
+    first: Vec<u8>,
+    second: Vec<u8>,
+    own: Answer,
+    rooms: Vec<usize>,
 }
 
-impl Default for Lent {
-    fn default() -> Lent {
-        Lent { bytes: vec![UNTOUCHED; GUARD + ENOUGH + GUARD] }
+impl Asked {
+    fn request(&self, room: usize) -> Vec<u8> {
+        let (x, n) = if let Function::Write { x, n } = self.function { (x, n) } else { (0, 0) };
+        let mut bytes = vec![self.function.known().0];
+        for number in [x, n, self.first.len() as u32, self.second.len() as u32, room as u32] {
+            bytes.extend(number.to_le_bytes());
+        }
+        [bytes, self.first.clone(), self.second.clone()].concat()
     }
-}
 
-impl Lent {
-    /// The printed report, or the line of the refusal. A buffer of just the report's length gives
-    /// the same, and a shorter one is refused 14.
-    pub fn report(&mut self, file: &[u8]) -> Result<Vec<u8>, String> {
-        let text = match self.call(file, ENOUGH)? {
-            Ok(text) => text,
-            Err(refusal) => return Ok(refusal.line().into_bytes()),
+    /// The answer for one buffer against the one expected. Of a difference the input is kept, and of the writer, which has
+    /// several, the request.
+    fn check(&self, room: usize, from: &mut impl Read) -> Result<(), Difference> {
+        let (_, name, _) = self.function.known();
+        let (word, out) = self.function.expected(&self.own, room);
+        let told = |told: &str, theirs: &[u8]| {
+            let writes = matches!(self.function, Function::Write { .. });
+            let input = if writes { self.request(room) } else { self.first.clone() };
+            Difference::new(&format!("the library's {name}, lent {room} bytes: {told}"), &input, &out, theirs)
         };
-        if self.call(file, text.len())? != Ok(text.clone()) {
-            return Err("a buffer of the report's length gives something else".into());
+        let (their_word, only, theirs) = answer(from).map_err(|error| told(&error.to_string(), &[]))?;
+        if !only {
+            return Err(told("a byte outside the output changed", &theirs));
         }
-        let short = Err(Refusal { number: 14, k: 0 });
-        if !text.is_empty() && self.call(file, text.len() - 1)? != short {
-            return Err("a buffer shorter than the report is not refused 14".into());
+        if (their_word, &theirs) != (word, &out) {
+            return Err(told(&format!("{their_word:#018x} and not {word:#018x}"), &theirs));
         }
-        Ok(text)
+        Ok(())
+    }
+}
+
+/// The returned word, whether no byte changed but the output's, and the output.
+fn answer(from: &mut impl Read) -> std::io::Result<(u64, bool, Vec<u8>)> {
+    let (mut word, mut only, mut length) = ([0; 8], [0; 1], [0; 4]);
+    from.read_exact(&mut word)?;
+    from.read_exact(&mut only)?;
+    from.read_exact(&mut length)?;
+    let mut out = vec![0; u32::from_le_bytes(length) as usize];
+    from.read_exact(&mut out)?;
+    Ok((u64::from_le_bytes(word), only == [1], out))
+}
+
+pub struct Library {
+    child: Child,
+    to: Option<ChildStdin>,
+    answers: Later<Asked>,
+    random: Random,
+}
+
+impl Library {
+    /// The server, if it is built.
+    pub fn find() -> Option<Library> {
+        let path = top().join("target/rack/serve");
+        let mut command = path.is_file().then(|| started(&path))?;
+        let mut child = command.stdin(Stdio::piped()).stdout(Stdio::piped()).spawn().ok()?;
+        let mut from: BufReader<ChildStdout> = BufReader::new(child.stdout.take()?);
+        let answers = Later::start(move |asked: Asked| {
+            asked.rooms.iter().try_for_each(|&room| asked.check(room, &mut from))
+        });
+        Some(Library { to: child.stdin.take(), child, answers, random: Random::new(0) })
     }
 
-    /// One call with a buffer of `room` bytes. No other byte than the output's may change.
-    fn call(&mut self, file: &[u8], room: usize) -> Result<Result<Vec<u8>, Refusal>, String> {
-        let out = self.bytes[GUARD..GUARD + room].as_mut_ptr();
-        // SAFETY: both pointers are to that many bytes, and they don't overlap.
-        let number = unsafe { stepbench_report(file.as_ptr(), file.len(), out, room) };
-        let answer = Answer::of(number)?;
-        let length = match answer {
-            Answer::Length(length) if length > room => return Err("longer than the buffer".into()),
-            Answer::Length(length) => length,
-            Answer::Refused(_) => 0,
+    /// A function of one input must give this: with a buffer of just the output's length, with a byte less, and with none,
+    /// some more or what is always enough.
+    pub fn ask(&mut self, function: Function, input: &[u8], own: &Answer) -> Result<(), Difference> {
+        let (_, _, enough) = function.known();
+        let length = own.as_ref().map_or(0, Vec::len);
+        let more = length + self.random.between(1, 64);
+        let last = self.random.pick(&[0, more, more, more, more, more, more, enough]);
+        let rooms = match own {
+            Ok(_) if function != Function::Read => vec![length, length - 1, last],
+            _ => vec![last],
         };
-        let text = self.bytes[GUARD..GUARD + length].to_vec();
-        self.bytes[GUARD..GUARD + length].fill(UNTOUCHED);
-        if self.bytes.iter().any(|&byte| byte != UNTOUCHED) {
-            self.bytes.fill(UNTOUCHED);
-            return Err("a byte outside the output changed".into());
+        self.ask_with(function, input, &[], own, rooms)
+    }
+
+    /// A function of two inputs must give this with buffers of so many bytes.
+    pub fn ask_with(
+        &mut self,
+        function: Function,
+        first: &[u8],
+        second: &[u8],
+        own: &Answer,
+        rooms: Vec<usize>,
+    ) -> Result<(), Difference> {
+        let asked = Asked { function, first: first.into(), second: second.into(), own: own.clone(), rooms };
+        let requests: Vec<u8> = asked.rooms.iter().flat_map(|&room| asked.request(room)).collect();
+        self.answers.give(asked)?;
+        let sent = self.to.as_mut().is_some_and(|to| to.write_all(&requests).is_ok());
+        if sent {
+            Ok(())
+        } else {
+            self.end()
         }
-        Ok(match answer {
-            Answer::Refused(refusal) => Err(refusal),
-            Answer::Length(_) => Ok(text),
-        })
+    }
+
+    /// Waits for all answers.
+    pub fn end(&mut self) -> Result<(), Difference> {
+        drop(self.to.take());
+        self.answers.end()
+    }
+}
+
+impl Drop for Library {
+    fn drop(&mut self) {
+        let _ = self.end();
+        let _ = self.child.wait();
     }
 }

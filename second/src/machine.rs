@@ -48,7 +48,7 @@ pub struct Station {
     c: u32,
     pub seq: u32,
     pub pid: usize,
-    cp: u32,
+    pub cp: u32,
     ca: u32,
     val: u32,
 }
@@ -71,9 +71,9 @@ pub const ENTRIES: usize = 33;
 
 pub struct Machine {
     pub v: Pair,
-    p: Pair,
-    a: [Pair; ENTRIES],
-    r: [Pair; ENTRIES],
+    pub p: Pair,
+    pub a: [Pair; ENTRIES],
+    pub r: [Pair; ENTRIES],
     pub stations: [Station; ENTRIES],
 }
 
@@ -115,6 +115,9 @@ impl Machine {
         match me.place {
             Place::Rest => {}
             Place::P11 => {
+                if F == fault::S_AT_11 {
+                    me.s = self.v.first;
+                }
                 me.c += 1;
                 self.a[id] = Pair::new(me.c, me.b);
                 me.place = Place::P12;
@@ -126,7 +129,9 @@ impl Machine {
                 me.place = Place::P13;
             }
             Place::P13 => {
-                self.p.max_write::<F>(Pair::new(me.s + 1, pid_and_count(id as u8, me.c)));
+                let c = if F == fault::OLD_COUNT_AT_13 { me.c - 1 } else { me.c };
+                let claim = Pair::new(me.s + 1, pid_and_count(id as u8, c));
+                put::<F>(&mut self.p, claim, fault::WRITE_AT_13);
                 me.place = Place::P14;
             }
             Place::P14 => {
@@ -158,19 +163,28 @@ impl Machine {
                 Event::Going
             }
             Place::P18 => {
-                self.r[me.pid].max_write::<F>(Pair::new(me.ca, 1));
+                if F == fault::A_READ_AGAIN {
+                    Pair { first: me.ca, second: me.val } = self.a[me.pid];
+                }
+                let winner = match F {
+                    fault::R_OF_SELF => id,
+                    fault::R_OF_LATER_PID => pid_of(self.p.second),
+                    _ => me.pid,
+                };
+                put::<F>(&mut self.r[winner], Pair::new(me.ca, 1), fault::WRITE_AT_18);
                 me.place = Place::P19;
                 Event::Going
             }
             Place::P19 => {
                 let before = self.v.first;
-                self.v.max_write::<F>(Pair::new(me.seq, me.val));
+                put::<F>(&mut self.v, Pair::new(me.seq, me.val), fault::WRITE_AT_19);
                 me.place = Place::P20;
                 Event::Wrote(self.v.first > before)
             }
             _ => {
                 let won = self.r[id].second == 1;
                 let answer = match me.kind {
+                    Kind::Swap if F == fault::SWAP_OF_LAST_TURN => Answer::Number(self.v.second),
                     Kind::Swap => Answer::Number(me.a),
                     _ => Answer::Truth(won),
                 };
@@ -178,5 +192,15 @@ impl Machine {
                 Event::EndedAt20(answer)
             }
         }
+    }
+}
+
+/// A max-write, or a write in the program of the fault `plain`.
+#[inline]
+fn put<const F: u8>(register: &mut Pair, new: Pair, plain: u8) {
+    if F == plain {
+        *register = new;
+    } else {
+        register.max_write::<F>(new);
     }
 }

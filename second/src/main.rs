@@ -1,32 +1,45 @@
 //! The second program: document 01's report written a second time, and its comparison with the bench.
 
+mod bench;
 mod card;
 mod check;
 mod compare;
+mod contend;
+mod contention;
 mod counts;
 mod damage;
 mod decorate;
+mod difference;
 mod fault;
 mod faults;
-#[cfg(feature = "library")]
+mod later;
 mod library;
 mod machine;
 mod make;
+mod naive;
 mod other;
 mod parse;
+mod probe;
+mod probes;
 mod random;
 mod report;
 mod run;
 mod runfile;
 mod search;
-#[cfg(feature = "library")]
+#[cfg(feature = "linked")]
 mod speed;
 #[cfg(test)]
 mod tests;
+#[cfg(test)]
+mod tests_probe;
 mod text;
 mod texts;
+mod values;
+mod written;
+mod wrong;
 
-use compare::{Comparison, Difference};
+use compare::Comparison;
+use difference::Difference;
 use random::Random;
 use std::io::{Read, Write};
 use std::process::ExitCode;
@@ -35,11 +48,13 @@ use text::LONGEST_TEXT;
 const HELP: &str = "usage: second report < FILE      the report of a run file
        second read < FILE        a run file as text
        second write < TEXT       a text as a run file
-       second make SEED KIND     a random file: run, tiny, largest, widest, damaged,
+       second make SEED KIND     a random file: run, tiny, deepest, largest, widest, damaged,
                                  sweep (file SEED of the cuts and changes), text or slip
        second compare [RUNS [DAMAGED]]   against the bench's programs
        second faults [RUNS]      the planted faults
-       second speed [ROUNDS] < FILE      both reports of a file, timed; wants the library
+       second probe < CASES      a turn of each bench given in numbers (docs/PROBE.md)
+       second probes SEED COUNT  cases for it
+       second speed [ROUNDS] < FILE      both reports of a file, timed; x86-64 alone, and the library
 ";
 
 fn main() -> ExitCode {
@@ -62,7 +77,9 @@ fn main() -> ExitCode {
             say(text.as_bytes());
             ExitCode::from(u8::from(!all_caught))
         }
-        #[cfg(feature = "library")]
+        (["probe"], ..) => say(probe::probe(&all_input()).as_bytes()),
+        (["probes", _, _], Some(seed), Some(count)) => say(probes::probes(seed, count).as_bytes()),
+        #[cfg(feature = "linked")]
         (["speed"] | ["speed", _], Some(rounds), _) => match speed::speed(&input(), rounds as usize) {
             Ok(line) => say((line + "\n").as_bytes()),
             Err(told) => complain(&(told + "\n")),
@@ -73,8 +90,17 @@ fn main() -> ExitCode {
 
 /// Standard input, but no more than a byte over the longest text; run files are shorter.
 fn input() -> Vec<u8> {
+    taken(LONGEST_TEXT as u64 + 1)
+}
+
+/// The whole of standard input.
+fn all_input() -> Vec<u8> {
+    taken(u64::MAX)
+}
+
+fn taken(most: u64) -> Vec<u8> {
     let mut bytes = Vec::new();
-    if let Err(error) = std::io::stdin().take(LONGEST_TEXT as u64 + 1).read_to_end(&mut bytes) {
+    if let Err(error) = std::io::stdin().take(most).read_to_end(&mut bytes) {
         eprintln!("standard input: {error}");
         std::process::exit(2);
     }
@@ -108,6 +134,7 @@ fn make_one(seed: u64, kind: &str) -> ExitCode {
     match kind {
         "run" => say(&make::run(&mut random)),
         "tiny" => say(&make::tiny(&mut random)),
+        "deepest" => say(&make::deepest(&mut random)),
         "largest" => say(&make::largest(&mut random)),
         "widest" => say(&make::widest()),
         "damaged" => say(&damage::random(&mut random)),
@@ -131,13 +158,17 @@ fn compare_all(runs: u64, damaged: u64) -> ExitCode {
     if let Err(difference) = comparison.all(runs, damaged) {
         return show(&difference);
     }
-    let (line, whole) = comparison.line();
-    say((line + "\n").as_bytes());
-    if !whole {
-        complain("not all compared: report, read_run or write_run is not built in target/bin\n");
-        return ExitCode::from(2);
+    say(comparison.lines().as_bytes());
+    let seldom = comparison.too_seldom();
+    if !seldom.is_empty() {
+        return complain(&(seldom.join("\n") + "\n"));
     }
-    ExitCode::SUCCESS
+    let missing = comparison.missing();
+    if missing.is_empty() {
+        return ExitCode::SUCCESS;
+    }
+    complain(&format!("not all compared; not built: {}\n", missing.join(", ")));
+    ExitCode::from(2)
 }
 
 /// Saves the file and both outputs of a difference under target/, and shows it.

@@ -1,66 +1,55 @@
-//! Random good run files: small ranges of values, so that contests are common.
+//! Random good run files: those that contend, some of any kind, and the largest ones.
 
+use crate::contend::{self, Size};
 use crate::random::Random;
 use crate::runfile::{write, Call, Kind, MAX_CALLS, MAX_STATIONS, MAX_TURNS};
+use crate::values::Ring;
 
-/// Limits of a random file.
-struct Size {
-    stations: usize,
-    calls: usize,
-    turns: usize,
-}
-
-const TINY: Size = Size { stations: 3, calls: 6, turns: 70 };
-const SMALL: Size = Size { stations: 5, calls: 14, turns: 170 };
+const TINY: Size = Size { stations: 3, calls: 6, turns: 62 };
+const SMALL: Size = Size { stations: 6, calls: 24, turns: 240 };
 const MIDDLE: Size = Size { stations: 32, calls: 80, turns: 900 };
 const BIG: Size = Size { stations: 32, calls: MAX_CALLS, turns: 12_000 };
 
 /// A random run of a random size.
 pub fn run(random: &mut Random) -> Vec<u8> {
-    let size = match random.below(100) {
-        0..=34 => TINY,
-        35..=79 => SMALL,
-        80..=98 => MIDDLE,
+    let size = match random.below(200) {
+        0..=49 => TINY,
+        50..=154 => SMALL,
+        155..=198 => MIDDLE,
         _ => BIG,
     };
-    run_of(random, &size)
+    if random.once_in(8) {
+        wild(random, &size)
+    } else {
+        contend::run(random, &size)
+    }
 }
 
-/// A run of at most 6 calls, as bases of damaged files.
+/// A small run, as the base of damaged files.
 pub fn tiny(random: &mut Random) -> Vec<u8> {
-    run_of(random, &Size { stations: 4, calls: 4, turns: 30 })
+    wild(random, &Size { stations: 4, calls: 4, turns: 30 })
 }
 
-fn run_of(random: &mut Random, size: &Size) -> Vec<u8> {
+/// A run in which all of 1,024 calls go past place 5, of any length up to 40,960 turns.
+pub fn deepest(random: &mut Random) -> Vec<u8> {
+    let n = random.between(3, usize::from(MAX_STATIONS));
+    let turns = if random.once_in(4) { MAX_TURNS } else { random.between(0, MAX_TURNS) };
+    contend::deepest(random, n, turns)
+}
+
+/// A run of any calls and any turns, not made with a machine: the word may stick at a value that no call claims from.
+fn wild(random: &mut Random, size: &Size) -> Vec<u8> {
     let n = if random.once_in(8) { 1 } else { random.between(2, size.stations) };
     let q = random.between(0, size.calls);
     let most = size.turns.min(12 * q + 10);
     let t = if random.once_in(4) { random.between(0, most) } else { most - random.below(most / 2) };
-    let values = Values::new(random);
+    let values = Ring::new(random, &[1, 1, 2, 2, 2, 2, 3, 5]);
     let calls = some_calls(random, n, q, &values);
     let turns = some_turns(random, n, t);
     write(values.one(random), n as u8, &calls, &turns)
 }
 
-/// A tiny range of values somewhere among the numbers of 32 bits.
-struct Values {
-    base: u32,
-    span: usize,
-}
-
-impl Values {
-    fn new(random: &mut Random) -> Values {
-        let anywhere = random.next() as u32;
-        let base = random.pick(&[0, 0, 0, 1, 9, u32::MAX - 3, u32::MAX, anywhere]);
-        Values { base, span: random.pick(&[1, 1, 2, 2, 2, 2, 3, 5]) }
-    }
-
-    fn one(&self, random: &mut Random) -> u32 {
-        self.base.wrapping_add(random.below(self.span) as u32)
-    }
-}
-
-fn some_calls(random: &mut Random, n: usize, q: usize, values: &Values) -> Vec<Call> {
+fn some_calls(random: &mut Random, n: usize, q: usize, values: &Ring) -> Vec<Call> {
     let busiest = random.between(1, n);
     let (heavy, reads, swaps) = (random.once_in(4), random.below(4), random.below(4));
     (0..q)
@@ -77,13 +66,13 @@ fn some_calls(random: &mut Random, n: usize, q: usize, values: &Values) -> Vec<C
         .collect()
 }
 
-fn call(random: &mut Random, station: u8, kind: Kind, values: &Values) -> Call {
+fn call(random: &mut Random, station: u8, kind: Kind, values: &Ring) -> Call {
     if kind == Kind::Read {
         return Call { station, kind, a: 0, b: 0 };
     }
     let (a, mut b) = (values.one(random), values.one(random));
     if a == b && !random.once_in(5) {
-        b = values.base.wrapping_add((a.wrapping_sub(values.base) + 1) % (values.span as u32 + 1));
+        b = values.after(a);
     }
     Call { station, kind, a, b }
 }

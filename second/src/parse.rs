@@ -55,13 +55,14 @@ impl<'a> Words<'a> {
         (self.at > start).then(|| &self.text[start..self.at])
     }
 
-    /// The next word of this line or of a later one; none at the end of the text.
+    /// The next word of this line or of a later one; none at the end of the text, which after a final newline is on
+    /// the line after it.
     fn word_of_any_line(&mut self) -> Option<&'a [u8]> {
         loop {
             if let Some(word) = self.word() {
                 return Some(word);
             }
-            if self.at + 1 >= self.text.len() {
+            if self.at == self.text.len() {
                 return None;
             }
             self.at += 1;
@@ -149,13 +150,13 @@ fn call(words: &mut Words, station: u8) -> Result<Call, Wrong> {
 fn all_turns(words: &mut Words, n: u8) -> Result<Vec<u8>, Wrong> {
     let mut turns = Vec::new();
     while let Some(word) = words.word_of_any_line() {
+        if turns.len() == MAX_TURNS {
+            return words.wrong(10);
+        }
         let Some(id) = station(word, n) else {
             return words.wrong(8);
         };
         turns.push(id);
-        if turns.len() > MAX_TURNS {
-            return words.wrong(10);
-        }
     }
     Ok(turns)
 }

@@ -114,7 +114,12 @@ fn turn<const F: u8>(file: &RunFile, book: &mut Book, machine: &mut Machine, id:
             book.give_point(call, now);
             book.end(call, now, answer);
         }
-        Event::EndedAt20(answer) => book.end(call, now, answer),
+        Event::EndedAt20(answer) => {
+            if F == fault::LOSER_AT_OWN_TURN {
+                book.give_point(call, now);
+            }
+            book.end(call, now, answer);
+        }
         Event::Wrote(raised) => wrote::<F>(book, machine, id, raised, now),
     }
 }
@@ -131,6 +136,9 @@ fn wrote<const F: u8>(book: &mut Book, machine: &Machine, id: usize, raised: boo
     }
     if past_5(machine, winner, seq) {
         book.give_point(book.current[winner], now);
+    }
+    if F == fault::LOSER_AT_OWN_TURN {
+        return;
     }
     let before = book.listed;
     for at in 1..ENTRIES {

@@ -127,6 +127,28 @@ fn parts_are_good(table: &[u8], turns: &[u8], n: u8) -> Result<(), Refusal> {
     Ok(())
 }
 
+/// What the writer gives for these parts, of whatever lengths: the file, or the first refusal that holds. Its buffer is
+/// long enough.
+pub fn write_parts(x: u32, n: u32, table: &[u8], turns: &[u8]) -> Result<Vec<u8>, Refusal> {
+    let refuse = |number| Err(Refusal { number, k: 0 });
+    let stations = match u8::try_from(n) {
+        Ok(stations) if (1..=MAX_STATIONS).contains(&stations) => stations,
+        _ => return refuse(3),
+    };
+    if table.len() / RECORD > MAX_CALLS {
+        return refuse(4);
+    }
+    if turns.len() > MAX_TURNS {
+        return refuse(5);
+    }
+    if !table.len().is_multiple_of(RECORD) {
+        return refuse(6);
+    }
+    parts_are_good(table, turns, stations)?;
+    let calls: Vec<Call> = table.chunks_exact(RECORD).map(call_of).collect();
+    Ok(write(x, stations, &calls, turns))
+}
+
 /// The file of these parts, with no test: random and damaged files are made by it too.
 pub fn write(x: u32, n: u8, calls: &[Call], turns: &[u8]) -> Vec<u8> {
     let mut file = Vec::with_capacity(TRAILER + turns.len() + RECORD * calls.len());

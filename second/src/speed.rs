@@ -1,9 +1,13 @@
-//! Both reports of one file, side by side: for bench/speed, which counts instructions inside the two functions named here.
+//! Both reports of one file, side by side: for bench/speed, which counts instructions inside the two functions named
+//! here. The library is linked for this alone (feature `linked`).
 
-use crate::library::stepbench_report;
 use crate::report::{report, ENOUGH};
 use std::hint::black_box;
 use std::time::{Duration, Instant};
+
+extern "C" {
+    fn stepbench_report(file: *const u8, file_len: usize, out: *mut u8, out_len: usize) -> u64;
+}
 
 /// This program's report, called as the library's is. The length, or all ones for a refusal.
 ///

@@ -1,11 +1,12 @@
 //! R1 to R8 of document 01, byte for byte, and both sides of the limits that files have.
 
-use crate::make;
+use crate::naive::record;
 use crate::parse::parse;
 use crate::random::Random;
 use crate::report::{output, report, ENOUGH};
-use crate::runfile::{write, Call, Kind, Refusal};
+use crate::runfile::{self, write, Call, Kind, Refusal};
 use crate::text::print;
+use crate::{contend, make};
 
 fn set(station: u8, a: u32, b: u32) -> Call {
     Call { station, kind: Kind::Set, a, b }
@@ -119,10 +120,75 @@ fn texts_print_and_parse_back() {
         let text = print(&file).expect("a good file");
         assert_eq!(parse(text.as_bytes()).as_ref(), Ok(&file));
     }
-    let wrong = |text: &str| parse(text.as_bytes()).err().map(|wrong| (wrong.line, wrong.number));
+}
+
+fn wrong(text: &str) -> Option<(usize, u32)> {
+    parse(text.as_bytes()).err().map(|wrong| (wrong.line, wrong.number))
+}
+
+#[test]
+fn the_line_of_a_complaint() {
     assert_eq!(wrong("start 4\nstations 2\n1 set 4\n"), Some((3, 2)));
     assert_eq!(wrong("start 4\nstations 2\n3 read"), Some((3, 6)));
     assert_eq!(wrong("start 4\nstations 2\nturns 1\n 3"), Some((4, 8)));
     assert_eq!(wrong("start 4294967296\n"), Some((1, 2)));
-    assert_eq!(wrong("start 4\n\n# x\n"), Some((3, 4)));
+    assert_eq!(wrong("start 4\n\n# x"), Some((3, 4)));
+    assert_eq!(wrong("start 4\n\n# x\n"), Some((4, 4)));
+    assert_eq!(wrong(""), Some((1, 1)));
+    assert_eq!(wrong("\n"), Some((2, 1)));
+}
+
+#[test]
+fn a_call_or_a_turn_too_many() {
+    let head = "start 4\nstations 2\n";
+    let calls = head.to_owned() + &"1 read\n".repeat(1_024);
+    assert_eq!(wrong(&calls), None);
+    assert_eq!(wrong(&(calls.clone() + "2 read\n1 x")), Some((1_027, 9)));
+    assert_eq!(wrong(&(calls.clone() + "2 read 1\n")), Some((1_027, 3)));
+    assert_eq!(wrong(&(calls + "turns 1\n")), None);
+    let turns = head.to_owned() + "turns\n" + &"1 ".repeat(40_960);
+    assert_eq!(wrong(&turns), None);
+    assert_eq!(wrong(&(turns.clone() + "\n")), None);
+    assert_eq!(wrong(&(turns.clone() + "2")), Some((4, 10)));
+    assert_eq!(wrong(&(turns + "\nx")), Some((5, 10)));
+}
+
+#[test]
+fn the_naive_run_reports_the_same() {
+    for seed in 0..300 {
+        let file = make::run(&mut Random::new(seed));
+        let run_file = runfile::read(&file).expect("a good file");
+        let report = record(&run_file).report(&run_file);
+        assert_eq!(report.as_bytes(), output(&file));
+    }
+}
+
+#[test]
+fn all_calls_of_the_deepest_run_go_past_place_5() {
+    for turns in [11_000, 40_960] {
+        let file = contend::deepest(&mut Random::new(turns as u64), 32, turns);
+        let seen = record(&runfile::read(&file).expect("a good file")).seen();
+        assert_eq!((seen.begun, seen.past_5), (1_024, 1_024));
+        assert!(seen.raises > 32);
+    }
+}
+
+#[test]
+fn the_writer_refuses_by_the_lowest_number() {
+    let refused = |n, table: &[u8], turns: &[u8]| {
+        let told = runfile::write_parts(7, n, table, turns);
+        told.err().map_or((0, 0), |refusal| (refusal.number, refusal.k))
+    };
+    let read = [1, 0, 0, 0, 0, 0, 0, 0, 0, 0, 0, 0];
+    let (table, turns) = (read.repeat(1_025), vec![1; 40_961]);
+    assert_eq!(refused(256, &table, &turns), (3, 0));
+    assert_eq!(refused(33, &[], &[]), (3, 0));
+    assert_eq!(refused(1, &[table.clone(), vec![0; 5]].concat(), &turns), (4, 0));
+    assert_eq!(refused(1, &table[..12_299], &turns), (5, 0));
+    assert_eq!(refused(1, &table[..12_293], &turns[..40_960]), (6, 0));
+    assert_eq!(refused(1, &[&table[..24], &[2], &read[1..]].concat(), &[0]), (7, 3));
+    assert_eq!(refused(1, &table[..12_288], &[1, 1, 2]), (8, 3));
+    assert_eq!(refused(1, &table[..12_288], &turns[..40_960]), (0, 0));
+    let file = write(7, 1, &[set(1, 7, 8)], &[1, 1]);
+    assert_eq!(runfile::write_parts(7, 1, &file[..12], &file[12..14]), Ok(file));
 }
