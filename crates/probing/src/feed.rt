@@ -38,7 +38,8 @@ fn is_blank(b: u8) -> bool
     (b == 32) | (b == 10)
 }
 
-fn goes_on(s: Reading) -> bool
+// Whether there is more to read of the case; not so where it can't be read.
+pub fn goes_on(s: Reading) -> bool
     ensures { λ r. ⌜ r ≡ goesOn s ⌝ }
 {
     (s.filled < CASE_SIZE) & (s.number < NO_NUMBER)

@@ -8,6 +8,7 @@ mod texts;
 
 pub use feed::closed;
 pub use feed::fed;
+pub use feed::goes_on;
 
 // How far a case is read: how many of its numbers are whole, whether a word has begun, and the number that the word is so far.
 // A number of 4,294,967,296 or more is none.
