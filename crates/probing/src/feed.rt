@@ -48,7 +48,7 @@ pub fn goes_on(s: Reading) -> bool
 fn is_cut(s: Reading) -> bool
     ensures { λ r. ⌜ r ≡ isCut s ⌝ }
 {
-    (0 < s.filled) & ((s.filled < CASE_SIZE) & (s.number < NO_NUMBER))
+    (0 < s.filled) & goes_on(s)
 }
 
 // A number goes to its place in the row, if the row has it.

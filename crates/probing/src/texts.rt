@@ -6,15 +6,13 @@ ghost use lib.ListN.{getD, length};
 ghost use Rattle.script.specs.Wrote.{Wrote};
 ghost use Rattle.card.specs.Register.{halves};
 ghost use Rattle.method.specs.Record.{resting};
-ghost use Rattle.probing.specs.Numbers.{halvesNumbers, claimNumbers, callNumbers, entryNumbers, stationNumbers, rows};
+ghost use Rattle.probing.specs.Numbers.{halvesNumbers, entryNumbers, stationNumbers, rows};
 ghost use Rattle.probing.specs.Text.{spaced, hexDigit, hexes, soundText, refusedText, endedText, answerText, benchText, room, drawnText, pictureText, caseText, faultText};
 use crate::numbers::bench_of;
 use crate::numbers::cell;
 use bench::Bench;
-use card::Claim;
 use card::Halves;
 use method::Answer;
-use method::Call;
 use method::Station;
 use script::decimal;
 use script::put;
@@ -35,20 +33,12 @@ fn put_halves(out: &mut [u8], at: usize, e: Halves) -> usize
     put_number(out, o, e.second)
 }
 
-fn put_claim(out: &mut [u8], at: usize, p: Claim) -> usize
-    ensures { λ r. ⌜ Wrote (now (out .entry)) (now (out .exit)) at r (spaced (claimNumbers p)) ⌝ }
+fn put_three(out: &mut [u8], at: usize, x: u32, y: u32, z: u32) -> usize
+    ensures { λ r. ⌜ Wrote (now (out .entry)) (now (out .exit)) at r (spaced (x ∷ y ∷ z ∷ [])) ⌝ }
 {
-    let o1 = put_number(out, at, p.seq);
-    let o2 = put_number(out, o1, p.pid);
-    put_number(out, o2, p.c)
-}
-
-fn put_call(out: &mut [u8], at: usize, call: Call) -> usize
-    ensures { λ r. ⌜ Wrote (now (out .entry)) (now (out .exit)) at r (spaced (callNumbers call)) ⌝ }
-{
-    let o1 = put_number(out, at, call.kind);
-    let o2 = put_number(out, o1, call.a);
-    put_number(out, o2, call.b)
+    let o1 = put_number(out, at, x);
+    let o2 = put_number(out, o1, y);
+    put_number(out, o2, z)
 }
 
 fn put_station(out: &mut [u8], at: usize, t: Station) -> usize
@@ -59,11 +49,11 @@ fn put_station(out: &mut [u8], at: usize, t: Station) -> usize
     let saw = t.saw;
     let entry = t.entry;
     let o1 = put_number(out, at, place.number());
-    let o2 = put_call(out, o1, call);
+    let o2 = put_three(out, o1, call.kind, call.a, call.b);
     let o3 = put_number(out, o2, t.s);
     let o4 = put_number(out, o3, t.own);
     let o5 = put_number(out, o4, t.c);
-    let o6 = put_claim(out, o5, saw);
+    let o6 = put_three(out, o5, saw.seq, saw.pid, saw.c);
     put_halves(out, o6, entry)
 }
 
@@ -105,7 +95,7 @@ fn put_bench(out: &mut [u8], at: usize, w: Bench) -> usize
     let stations = w.stations;
     let o1 = decimal(out, at, w.n);
     let o2 = put_halves(out, o1, v);
-    let o3 = put_claim(out, o2, p);
+    let o3 = put_three(out, o2, p.seq, p.pid, p.c);
     let o4 = put_entries(out, o3, a, r);
     let o5 = put_stations(out, o4, stations);
     put(out, o5, b'\n')

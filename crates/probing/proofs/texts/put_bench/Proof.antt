@@ -17,4 +17,4 @@ put-bench-spec =
     (λ c κs. tt)
     (λ c κs. tt)
     (λ c. search needs)
-    (λ c. andThen (andThen (c .before .before .before .before .before .before .before .before .before .before .before .before .before .before .before .before .before .before .before .before .before .before .decimal .ensures) (thenNumbers _ _ (c .before .before .before .before .before .before .before .before .before .before .before .before .before .before .before .before .before .before .put-halves .ensures) (thenNumbers _ _ (c .before .before .before .before .before .before .before .before .before .before .before .before .before .before .put-claim .ensures) (thenNumbers _ _ (c .before .before .before .before .before .before .before .before .before .before .put-entries .ensures) (c .before .before .before .before .before .before .put-stations .ensures))))) (c .before .before .put .ensures)))
+    (λ c. andThen (andThen (c .before .before .before .before .before .before .before .before .before .before .before .before .before .before .before .before .before .before .before .before .before .before .decimal .ensures) (thenNumbers _ _ (c .before .before .before .before .before .before .before .before .before .before .before .before .before .before .before .before .before .before .put-halves .ensures) (thenNumbers _ _ (c .before .before .before .before .before .before .before .before .before .before .before .before .before .before .put-three .ensures) (thenNumbers _ _ (c .before .before .before .before .before .before .before .before .before .before .put-entries .ensures) (c .before .before .before .before .before .before .put-stations .ensures))))) (c .before .before .put .ensures)))

@@ -15,4 +15,4 @@ put-station-spec =
     (λ c κs. tt)
     (λ c κs. tt)
     (λ c. search needs)
-    (λ c. thenNumbers _ _ (thenNumbers _ _ (thenNumbers _ _ (thenNumbers _ _ (thenNumbers _ _ (thenNumbers _ _ (rw (c .before .before .before .before .before .before .before .before .before .before .before .before .before .before .before .before .before .before .before .before .before .before .before .before .before .before .before .number .ensures) at (c .before .before .before .before .before .before .before .before .before .before .before .before .before .before .before .before .before .before .before .before .before .before .before .before .before .before .put-number .ensures)) (c .before .before .before .before .before .before .before .before .before .before .before .before .before .before .before .before .before .before .before .before .before .before .put-call .ensures)) (c .before .before .before .before .before .before .before .before .before .before .before .before .before .before .before .before .before .before .put-number2 .ensures)) (c .before .before .before .before .before .before .before .before .before .before .before .before .before .before .put-number3 .ensures)) (c .before .before .before .before .before .before .before .before .before .before .put-number4 .ensures)) (c .before .before .before .before .before .before .put-claim .ensures)) (c .before .before .put-halves .ensures)))
+    (λ c. thenNumbers _ _ (thenNumbers _ _ (thenNumbers _ _ (thenNumbers _ _ (thenNumbers _ _ (thenNumbers _ _ (rw (c .before .before .before .before .before .before .before .before .before .before .before .before .before .before .before .before .before .before .before .before .before .before .before .before .before .before .before .number .ensures) at (c .before .before .before .before .before .before .before .before .before .before .before .before .before .before .before .before .before .before .before .before .before .before .before .before .before .before .put-number .ensures)) (c .before .before .before .before .before .before .before .before .before .before .before .before .before .before .before .before .before .before .before .before .before .before .put-three .ensures)) (c .before .before .before .before .before .before .before .before .before .before .before .before .before .before .before .before .before .before .put-number2 .ensures)) (c .before .before .before .before .before .before .before .before .before .before .before .before .before .before .put-number3 .ensures)) (c .before .before .before .before .before .before .before .before .before .before .put-number4 .ensures)) (c .before .before .before .before .before .before .put-three2 .ensures)) (c .before .before .put-halves .ensures)))

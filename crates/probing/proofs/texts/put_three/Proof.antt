@@ -1,10 +1,10 @@
 use borrow.Author.Needs.{needs}
 use Rattle.probing.proofs.Spaced.{thenNumbers}
-use Rattle.probing.proofs.texts.put_claim.Statement.{statement}
-use Rattle.probing.proofs.texts.put_claim.Tie as tie
+use Rattle.probing.proofs.texts.put_three.Statement.{statement}
+use Rattle.probing.proofs.texts.put_three.Tie as tie
 
-pub put-claim-spec : {M : Type 1} → statement M
-put-claim-spec =
+pub put-three-spec : {M : Type 1} → statement M
+put-three-spec =
     tie.close
     (tie.spec (λ c κs. tt)
     (λ c κs. tt)
