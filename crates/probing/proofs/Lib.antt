@@ -1,0 +1,5 @@
+pub mod Filled
+pub mod Spaced
+pub mod Cases
+pub mod Goes
+pub mod Says

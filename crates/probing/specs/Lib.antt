@@ -1,0 +1,4 @@
+pub mod Numbers
+pub mod Text
+pub mod Feed
+pub mod Promise

@@ -1,0 +1,22 @@
+-- What is promised of benches in numbers, that no field is lost or exchanged; and of feeding, that its contract settles all. Assumes nothing.
+use mathlib.Core.Path.{_≡_}
+use mathlib.Core.List.{List}
+use Prim.Native.Nat.{ℕ}
+use lib.ListN.{length}
+use Rattle.bench.specs.declared.Bench.{Bench}
+use Rattle.probing.specs.declared.Probe.{Probe}
+use Rattle.probing.specs.declared.Said.{Said}
+use Rattle.probing.specs.Numbers.{benchOf, numbersOf}
+use Rattle.probing.specs.Feed.{FedTo, ClosedTo}
+
+-- the numbers of a bench say that bench. Its arrays have 33 entries, as every bench's have
+unfoldable pub NumbersSayBenches : Type 0
+NumbersSayBenches =
+    (w : Bench) → length (w .a) ≡ 33 → length (w .r) ≡ 33 → length (w .stations) ≡ 33 → benchOf (numbersOf w) ≡ w
+
+-- two answers with their rows and buffers that the contracts allow for one input are the same
+pub record FeedingSettled : Type 0 where
+  pub fed : (p : Probe) (b : ℕ) (row row₁ row₂ out out₁ out₂ : List ℕ) (x y : Said) → FedTo p b row row₁ out out₁ x → FedTo p b row row₂ out out₂ y
+      → (x ≡ y) × ((row₁ ≡ row₂) × (out₁ ≡ out₂))
+  pub closed : (p : Probe) (row row₁ row₂ out out₁ out₂ : List ℕ) (x y : ℕ) → ClosedTo p row row₁ out out₁ x → ClosedTo p row row₂ out out₂ y
+      → (x ≡ y) × ((row₁ ≡ row₂) × (out₁ ≡ out₂))
