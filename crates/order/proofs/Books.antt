@@ -1,4 +1,4 @@
--- The book that is kept of a file's run says what the log knows, turn by turn. Assumes nothing.
+-- The book that is kept of a file's run says what the journal knows, turn by turn. Assumes nothing.
 use mathlib.Core.Path.{_≡_, refl, _∙_, sym, ap}
 use mathlib.Core.Bool.{Bool, true, false, cond, not, _&&_}
 use mathlib.Core.List.{List, [], _∷_}
@@ -29,7 +29,7 @@ use Rattle.run.proofs.Books as Rows
 use Rattle.order.specs.Journal.{Journal, enters, allEnter, ends, acts, logged}
 use Rattle.order.proofs.Same.{opening, enter-all}
 
--- a row of a book that holds a function of the log
+-- a row of a book that holds a function of the journal
 pub record Row (n : ℕ) (l : List ℕ) (f : ℕ → ℕ) : Type 0 where
   pub long : length l ≡ n
   pub reads : (i : ℕ) → getD l i 0 ≡ f i

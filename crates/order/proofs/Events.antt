@@ -1,4 +1,4 @@
--- Each event of a turn keeps the invariant between what is watched and the log. Assumes nothing.
+-- Each event of a turn keeps the invariant between what is watched and the journal. Assumes nothing.
 use mathlib.Core.Path.{_≡_, refl, _∙_, sym}
 use mathlib.Core.Bool.{Bool, true, false, cond}
 use mathlib.Core.List.{List, [], _∷_, _++_, map}

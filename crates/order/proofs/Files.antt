@@ -1,4 +1,4 @@
--- Demand 3 for files: along the run of a file that reads well, book and log stay together, and the calls are the table's. Assumes nothing.
+-- Demand 3 for files: along the run of a file that reads well, book and journal stay together, the log is pinned, and the calls are the table's. Assumes nothing.
 use mathlib.Core.Path.{_≡_, refl, _∙_, sym, ap, subst⁻¹}
 use mathlib.Core.Logic.{⊎-elim}
 use mathlib.Core.Bool.{Bool, true, false, cond, _&&_, false≢true}

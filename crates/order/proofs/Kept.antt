@@ -1,4 +1,4 @@
--- The invariant between what is watched of a run and the log of its calls, and that each event keeps it. Assumes nothing.
+-- The invariant between what is watched of a run and the journal of its calls, and that each event keeps it. Assumes nothing.
 use mathlib.Core.Path.{_≡_, refl, _∙_, sym, ap, subst⁻¹}
 use Prim.Native.Nat.{ℕ, _+_, _≤_}
 use native.Mathlib.Omega.{arith}

@@ -1,4 +1,4 @@
--- What a turn leaves of a log: points change the list and the turns of points alone, and only the call on offer can begin. Assumes nothing.
+-- What a turn leaves of a journal: points change the list and the turns of points alone, and only the call on offer can begin. Assumes nothing.
 use mathlib.Core.Path.{_≡_, refl, _∙_}
 use mathlib.Core.Bool.{Bool, cond, not, _&&_}
 use mathlib.Core.List.{List, [], _∷_}

@@ -131,7 +131,7 @@ module _ {x now : ℕ} (t : 1 ≤ now) {owns : ℕ → ℕ} {m : Watcher} {g : J
         rw (e .own, e .last, e .latest) (ended (b .1 .1) _ _ now t (rw (b .1 .0) (took result own refl)))
     logged-owns (Refused number) f h few took = h
 
--- what holds of a bench and the log of its run, till turn `now`
+-- what holds of a bench and the journal of its run, till turn `now`
 pub record Held (x now : ℕ) (w : Bench) (g : Journal) : Type 0 where
   pub m : Watcher
   pub isSound : sound w ≡ true
