@@ -16,7 +16,7 @@ use Rattle.bench.specs.Sound.{sound}
 -- 9: bench not sound. 10: station 0 or over n. Then what is refused of the offer, 11 to 13
 abbrev pub turnRefusals : Bench → ℕ → ℕ → ℕ → ℕ → List Refusal
 turnRefusals w i kind a b =
-    refusal 9 (not (sound w)) ∷ refusal 10 (badStation (w .n) i) ∷ offerRefusals (w .v) (stationAt w i .place) (stationAt w i) kind a b
+    refusal 9 (not (sound w)) ∷ refusal 10 (badStation (w .n) i) ∷ offerRefusals (w .v) (stationAt w i .place) (stationAt w i .c) kind a b
 
 unfoldable pub turnOf : Bench → ℕ → ℕ → ℕ → ℕ → Turned
 turnOf w i kind a b = orRefused onBench (refusalOf (turnRefusals w i kind a b)) w (rowAt onBench w i (stationAt w i) kind a b)

@@ -62,7 +62,7 @@ onReach =
 
 -- 9: the station is not ready, so no sound bench has it. Then what is refused of the offer
 abbrev pub moveRefusals : Reach → ℕ → ℕ → ℕ → List Refusal
-moveRefusals g kind a b = refusal 9 (not (ready (g .station))) ∷ offerRefusals (g .v) (g .station .place) (g .station) kind a b
+moveRefusals g kind a b = refusal 9 (not (ready (g .station))) ∷ offerRefusals (g .v) (g .station .place) (g .station .c) kind a b
 
 -- a station's move: refused, and nothing moved, or the table's row
 unfoldable pub moveOf : Reach → ℕ → ℕ → ℕ → Moved

@@ -26,10 +26,10 @@ badOffer kind a b = ltb 3 kind || ((eqb kind 0 || eqb kind 3) && (not (eqb a 0) 
 abbrev pub wouldBegin : Place → ℕ → Bool
 wouldBegin p kind = atRest p && (eqb kind 1 || eqb kind 2)
 
--- 11, a station in a call too; 12 and 13: a set or swap would begin with c = 65,535, or with V.seq over 4,294,967,292
-abbrev pub offerRefusals : Halves → Place → Station → ℕ → ℕ → ℕ → List Refusal
-offerRefusals v p t kind a b =
-    refusal 11 (badOffer kind a b) ∷ refusal 12 (wouldBegin p kind && eqb (t .c) countLimit) ∷ refusal 13 (wouldBegin p kind && ltb versionLimit (v .first)) ∷ []
+-- of an offer to a station at place p with the count c. 11, in a call too; 12 and 13: a set or swap would begin with c = 65,535, or with V.seq over 4,294,967,292
+abbrev pub offerRefusals : Halves → Place → ℕ → ℕ → ℕ → ℕ → List Refusal
+offerRefusals v p c kind a b =
+    refusal 11 (badOffer kind a b) ∷ refusal 12 (wouldBegin p kind && eqb c countLimit) ∷ refusal 13 (wouldBegin p kind && ltb versionLimit (v .first)) ∷ []
 
 -- a refused turn hands back the bench given
 module _ {W Out : Type 0} (on : Access W Out) where
@@ -38,7 +38,7 @@ module _ {W Out : Type 0} (on : Access W Out) where
 
   -- a turn of a good station on a sound bench, by the place where it stands
   unfoldable pub stepOf : Place → W → ℕ → Station → ℕ → ℕ → ℕ → Out
-  stepOf p w i t kind a b = orRefused (refusalOf (offerRefusals (on .v w i) p t kind a b)) w (row on p w i t kind a b)
+  stepOf p w i t kind a b = orRefused (refusalOf (offerRefusals (on .v w i) p (t .c) kind a b)) w (row on p w i t kind a b)
 
   abbrev pub stepAt : W → ℕ → Station → ℕ → ℕ → ℕ → Out
   stepAt w i t kind a b = stepOf (t .place) w i t kind a b
