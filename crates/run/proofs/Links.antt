@@ -13,7 +13,7 @@ use lib.Seq.{getD-set-same, getD-set-other, take-at, drop-at}
 use Rattle.runfile.specs.First.{firstFrom}
 use Rattle.runfile.specs.Layout.{records, callOf}
 use Rattle.run.specs.Calls.{callAfter, offer, Linked}
-use Rattle.run.specs.Row.{byStation, sizeOf, startOf, rowPlaces, partOf, wrote}
+use Rattle.run.specs.Row.{byStation, sizeOf, startOf, rowPlaces, zeroRow, partOf, wrote}
 use Rattle.run.specs.Drive.{LinkedIn}
 use Rattle.run.proofs.Written.{in-order, written, read, long}
 
@@ -85,21 +85,25 @@ zero-part a k m h =
     ∙ ap (take k) (sym (replicate-append-replicate k r 0))
     ∙ take-at (zeros k) (zeros r) k (length-replicate k 0)
 
-pub zeros-in : (q : ℕ) → q < 9 → partOf (replicate rowPlaces 0) q ≡ replicate (sizeOf q) 0
-unfolding startOf sizeOf partOf
+pub zeros-in : (q : ℕ) → q < 9 → partOf zeroRow q ≡ replicate (sizeOf q) 0
+unfolding startOf sizeOf zeroRow partOf
 zeros-in q h =
     let fits : startOf q + sizeOf q ≤ 6249 = in-order q 9 h in
     zero-part (startOf q) (sizeOf q) 6249 fits
 
+pub zero-places : length zeroRow ≡ rowPlaces
+unfolding zeroRow
+zero-places = length-replicate {A = ℕ} rowPlaces 0
+
 -- nothing linked yet, in a row of zeros
-pub unlinked-in : (table row : List ℕ) → row ≡ replicate rowPlaces 0 → LinkedIn table row (records table)
+pub unlinked-in : (table row : List ℕ) → row ≡ zeroRow → LinkedIn table row (records table)
 unfolding sizeOf
 unlinked-in table row e =
     rw e
     (record {
-      places = refl;
+      places = zero-places;
       zeros = λ q h. zeros-in q (omega arith);
-      linked = rw (zeros-in 7 (omega arith)) (unlinked table (partOf (replicate rowPlaces 0) 8));
+      linked = rw (zeros-in 7 (omega arith)) (unlinked table (partOf zeroRow 8));
     })
 
 -- a call more, in the row

@@ -13,7 +13,7 @@ use Rattle.runfile.proofs.Trailers.{length-part}
 use Rattle.run.specs.declared.Tally.{Tally}
 use Rattle.run.specs.declared.Trace.{Trace}
 use Rattle.run.specs.declared.Drove.{Drove}
-use Rattle.run.specs.Row.{sizeOf, startOf, rowPlaces, partOf, bookIn, Fits}
+use Rattle.run.specs.Row.{sizeOf, startOf, rowPlaces, zeroRow, partOf, bookIn, Fits}
 use Rattle.run.specs.Drive.{runOfFile}
 use Rattle.run.specs.Trace.{cleared, rowOf, noTrace, traceBy, traceOf, TracedTo, RanTo}
 use Rattle.run.proofs.Written.{long}
@@ -87,6 +87,11 @@ module _ (file row : List ℕ) (d : Drove) (f : Fits row (d .tally)) (ran : stat
 pub turns-counted : (file : List ℕ) (a : ReadAnswer) → a ≡ readOf file → a .t ≡ length (turnsOf file)
 turns-counted file a e = ap (λ r. r .t) e ∙ sym (length-part file (readOf file .middle) (readOf file .t) (inside file .turns))
 
+-- the front of a row, cleared
+pub front-cleared : (row front : List ℕ) → rowPlaces ≤ length row → front ≡ cleared (take rowPlaces row) 0 → front ≡ zeroRow
+unfolding zeroRow
+front-cleared row front h e = e ∙ ap (λ k. replicate (k - 0) 0) (length-take-le rowPlaces row h)
+
 module _ (file row : List ℕ) where
   -- the file's refusal
   pub refused : (r : ReadAnswer) (t : Trace) → r ≡ readOf file → (r .refused ≡ 0 → ⊥) → t ≡ noTrace (r .refused) (r .k) → TracedTo file row t row
@@ -102,8 +107,8 @@ module _ (file row : List ℕ) where
       rw same (record { answered = rw (eq-eqb (readOf file .refused) 0 well, lt-ltb (length row) rowPlaces short); left = refl })
 
   -- a row that is long enough, of which the run was given the front
-  pub long-enough : (t : Trace) (front : List ℕ) → readOf file .refused ≡ 0 → (length row < rowPlaces → ⊥) → RanTo file t front → TracedTo file row t (front ++ drop rowPlaces row)
+  pub long-enough : (t : Trace) (front : List ℕ) → readOf file .refused ≡ 0 → rowPlaces ≤ length row → RanTo file t front → TracedTo file row t (front ++ drop rowPlaces row)
   unfolding traceOf
   long-enough t front well room ran =
       rw (ran .answered, ran .left)
-      (record { answered = rw (eq-eqb (readOf file .refused) 0 well, le-ltb (length row) rowPlaces (omega arith)); left = refl })
+      (record { answered = rw (eq-eqb (readOf file .refused) 0 well, le-ltb (length row) rowPlaces room); left = refl })

@@ -4,7 +4,7 @@ use mathlib.Core.Bool.{cond, _||_}
 use mathlib.Core.List.{List, [], _∷_}
 use Prim.Native.Nat.{ℕ, zero, suc, _+_, _<_}
 use lib.Dec.{ltb, eqb}
-use lib.ListN.{length, getD, set, take}
+use lib.ListN.{length, getD, set, take, replicate}
 use Rattle.rules.specs.Limits.{stationLimit, callLimit}
 use Rattle.runfile.specs.Layout.{part}
 use Rattle.run.specs.declared.Tally.{Tally}
@@ -58,6 +58,9 @@ startOf (suc p) = startOf p + sizeOf p
 -- the places of all parts
 abbrev pub rowPlaces : ℕ
 rowPlaces = 6249
+
+unfoldable pub zeroRow : List ℕ
+zeroRow = replicate rowPlaces 0
 
 unfoldable pub partOf : List ℕ → ℕ → List ℕ
 partOf row p = part row (startOf p) (sizeOf p)

@@ -3,12 +3,11 @@ ghost use mathlib.Core.Path.{_≡_};
 ghost use mathlib.Core.Bool.{cond, _&&_};
 ghost use Prim.Native.Nat.{_<_, _≤_};
 ghost use lib.Dec.{eqb};
-ghost use lib.ListN.{replicate};
 ghost use Rattle.method.specs.declared.Call.{Call};
 ghost use Rattle.rules.specs.Limits.{callLimit};
 ghost use Rattle.runfile.specs.Layout.{records};
 ghost use Rattle.run.specs.Calls.{offer, errandOf, waits, operationOf, StationsWithin};
-ghost use Rattle.run.specs.Row.{rowPlaces};
+ghost use Rattle.run.specs.Row.{zeroRow};
 ghost use Rattle.run.specs.Drive.{LinkedIn};
 use crate::Errand;
 use crate::Operation;
@@ -102,7 +101,7 @@ pub(crate) fn operation(t: Station, v: Halves, own: u32, n: u32) -> Operation
 
 // Leaves in a zero row each station's first call, and, for each call, its station's next one.
 pub(crate) fn link(table: &[u8], row: &mut [u32])
-    requires { ⌜ (now row ≡ replicate rowPlaces 0) × ((records (now table) ≤ callLimit) × StationsWithin (now table)) ⌝ }
+    requires { ⌜ (now row ≡ zeroRow) × ((records (now table) ≤ callLimit) × StationsWithin (now table)) ⌝ }
     ensures { λ r. ⌜ LinkedIn (now (table .entry)) (now (row .exit)) 0 ⌝ }
 {
     let mut c = table.len() / 12;

@@ -1,9 +1,8 @@
 // The run of a file that reads well, in a row of zeros that is just long enough. It assumes that the file was read once, since that takes a look at each turn.
 // After the list the row is zero again: what the loop kept for itself is no part of the trace.
 ghost use mathlib.Core.Path.{_≡_};
-ghost use lib.ListN.{replicate};
 ghost use Rattle.runfile.specs.Reading.{readOf, tableOf, turnsOf};
-ghost use Rattle.run.specs.Row.{rowPlaces};
+ghost use Rattle.run.specs.Row.{zeroRow};
 ghost use Rattle.run.specs.Trace.{RanTo};
 use crate::Trace;
 use crate::calls::link;
@@ -34,7 +33,7 @@ fn turns_of(file: &[u8], a: ReadAnswer) -> &[u8]
 }
 
 pub(crate) fn ran(file: &[u8], row: &mut [u32], a: ReadAnswer) -> Trace
-    requires { ⌜ (readOf (now file) .refused ≡ 0) × ((now row ≡ replicate rowPlaces 0) × (a ≡ readOf (now file))) ⌝ }
+    requires { ⌜ (readOf (now file) .refused ≡ 0) × ((now row ≡ zeroRow) × (a ≡ readOf (now file))) ⌝ }
     ensures { λ r. ⌜ RanTo (now (file .entry)) r (now (row .exit)) ⌝ }
 {
     let table = table_of(file, a);

@@ -8,7 +8,7 @@ pub at-once-spec : {M : Type 1} → statement M
 unfolding allEnter
 at-once-spec =
     tie.close
-    (tie.spec (λ c κs. search needs) (λ c. search needs) 
+    (tie.spec (λ c κs. search needs) (λ c. search needs)
     (λ c.
     let r = c .before .before in
     simp (r .before .before .if1 .taken) (r .enter .ensures))

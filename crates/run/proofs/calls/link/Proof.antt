@@ -6,7 +6,7 @@ use native.Mathlib.Omega.{arith}
 use lib.ListN.{length, length-set}
 use Rattle.runfile.specs.Layout.{records}
 use Rattle.run.specs.Drive.{LinkedIn}
-use Rattle.run.proofs.Links.{unlinked-in, linked-row}
+use Rattle.run.proofs.Links.{zero-places, unlinked-in, linked-row}
 use Rattle.run.proofs.calls.link.Statement.{statement}
 use Rattle.run.proofs.calls.link.Tie as tie
 
@@ -52,7 +52,7 @@ link-spec =
       rw (ap (λ r. r .station) (a .call-at .ensures))
           (linked-row (s .args .table .now) (l .loop .row) (l .loop .c) (omega arith) (l .loop .inv .0) (s .pre .1 .0) (s .pre .1 .1 (l .loop .c)) (l .loop .inv .1)),
     ))
-    (λ c. let l = c .before in l .loop .inv .1 .places ∙ sym (ap length (start l .pre .0)))
+    (λ c. let l = c .before in l .loop .inv .1 .places ∙ sym (ap length (start l .pre .0) ∙ zero-places))
     (λ c.
     let l = c .before .loop in
     let e : l .c ≡ 0 = omega arith in
