@@ -128,7 +128,8 @@ filed-start x n table low high =
             latest = record { long = refl; reads = everywhere 0 33 };
             within = λ j. omega arith;
             own = record { long = refl; reads = everywhere 0 1025 };
-            told = record { long = refl; reads = everywhere 0 1025 };
+            result = record { long = refl; reads = everywhere 0 1025 };
+            last = record { long = refl; reads = everywhere 0 1025 };
             point = record { long = refl; reads = everywhere 0 1025 };
             list = refl;
           };
@@ -155,5 +156,5 @@ every-file file well =
     record {
       demand = subst⁻¹ (λ l. Demand3 x (runOfFile file .bench .v .second) (logOfFile file) l) (f .matches .list) (demand (f .held));
       calls = f .plan .calls;
-      booked = λ c. record { own = f .matches .own .reads c; told = f .matches .told .reads c; point = f .matches .point .reads c };
+      booked = λ c. record { own = f .matches .own .reads c; result = f .matches .result .reads c; last = f .matches .last .reads c; point = f .matches .point .reads c };
     }

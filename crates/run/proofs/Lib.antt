@@ -10,3 +10,4 @@ pub mod Files
 pub mod Loop
 pub mod Start
 pub mod Traces
+pub mod Back
