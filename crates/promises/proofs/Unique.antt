@@ -2,8 +2,10 @@
 use mathlib.Core.Path.{_≡_, _∙_, sym, ap}
 use mathlib.Core.List.{List}
 use Prim.Native.Nat.{ℕ}
-use Rattle.run.specs.Trace.{lentRow, TracedTo}
-use Rattle.promises.specs.Unique.{Left, LeftRows, Unique, OneResult}
+use Rattle.run.specs.declared.Trace.{Trace}
+use Rattle.run.specs.Drive.{runOfFile}
+use Rattle.run.specs.Trace.{tracedOn, TracedTo}
+use Rattle.promises.specs.Unique.{Left, Unique, OneResult}
 
 by-equation : {X : Type 0} (d : X) → Unique X (λ r. r ≡ d)
 by-equation d x y p q = p ∙ sym q
@@ -11,17 +13,11 @@ by-equation d x y p q = p ∙ sym q
 by-equations : {X : Type 0} (d : X) (l : List ℕ) → Unique (Left X) (λ r. (r .result ≡ d) × (r .out ≡ l))
 by-equations d l x y p q i = record { result = (p .0 ∙ sym (q .0)) i; out = (p .1 ∙ sym (q .1)) i }
 
-by-rows : (file own told point list : List ℕ) → Unique LeftRows (λ r. TracedTo file own told point list (r .trace) (r .own) (r .told) (r .point) (r .list))
-by-rows file own told point list x y p q =
-    let e : x .trace ≡ y .trace = p .answered ∙ sym (q .answered) in
-    let same : (row before : List ℕ) → lentRow (x .trace) row before ≡ lentRow (y .trace) row before = λ row before. ap (λ t. lentRow t row before) e in
-    λ i. record {
-      trace = e i;
-      own = (p .owns ∙ same _ own ∙ sym (q .owns)) i;
-      told = (p .tolds ∙ same _ told ∙ sym (q .tolds)) i;
-      point = (p .points ∙ same _ point ∙ sym (q .points)) i;
-      list = (p .lists ∙ same _ list ∙ sym (q .lists)) i;
-    }
+-- of the run's trace, and the row that was lent for it
+by-trace : (file row : List ℕ) → Unique (Left Trace) (λ r. TracedTo file row (r .result) (r .out))
+by-trace file row x y p q =
+    let e : x .result ≡ y .result = p .answered ∙ sym (q .answered) in
+    λ i. record { result = e i; out = (p .left ∙ ap (λ t. tracedOn t (runOfFile file .book) row) e ∙ sym (q .left)) i }
 
 pub one-result : OneResult
 one-result =
@@ -45,5 +41,5 @@ one-result =
       sound = λ w. by-equation _;
       turn = λ w i kind a b. by-equation _;
       picture = λ w out. by-equations _ _;
-      traced = by-rows;
+      traced = by-trace;
     }
