@@ -82,10 +82,11 @@ small-numbers file bytes well =
     let few = r .good .few in
     record {
       own = b .own;
-      told = b .told;
-      point = λ c. omega (arith, b .rows .point c);
-      listed = few-listed (b .rows);
-      calls = λ i. omega (arith, b .rows .calls i);
+      result = b .result;
+      last = λ c. omega (arith, b .last c);
+      point = λ c. omega (arith, b .points .latest c);
+      listed = few-listed (b .points);
+      calls = λ i. omega (arith, b .points .calls i);
       turns = omega arith;
       idle = omega (arith, b .idle);
       begun = omega (arith, b .begun);

@@ -5,10 +5,11 @@ use Prim.Native.Nat.{ℕ, zero, suc, _<_, _≤_}
 use native.Mathlib.Omega.{arith}
 use Rattle.card.specs.declared.Halves.{Halves}
 use Rattle.card.specs.Register.{halves}
-use Rattle.method.specs.Record.{told, resting}
+use Rattle.method.specs.Record.{resting}
 use Rattle.bench.specs.Record.{blank}
+use Rattle.rules.specs.Limits.{callLimit}
 use Rattle.runfile.specs.Layout.{records}
-use Rattle.run.specs.Rows.{pointed, CallsWithin}
+use Rattle.run.specs.Row.{byCall, byStation, pointed, CallsWithin}
 use Rattle.run.specs.Run.{firstCalls, emptyBook}
 use Rattle.limits.specs.Within.{valueLimit, StationWithin, Within}
 use Rattle.limits.proofs.Elements.{one-more, all-same}
@@ -24,27 +25,26 @@ blank-within x n h =
       station = all-same (StationWithin 0 0) 33 (resting 0) (omega arith);
     }
 
-module _ (table : List ℕ) (few : records table ≤ 1024) where
+module _ (table : List ℕ) (few : records table ≤ callLimit) where
   firsts : (k : ℕ) → CallsWithin (firstCalls table k)
   unfolding firstCalls
   firsts zero j = omega arith
-  firsts (suc k) j = one-more (λ c. c < 1025) (firstCalls table k) _ 0 (call-after table k 0 few) (firsts k) j
+  firsts (suc k) j = one-more (λ c. c < byCall) (firstCalls table k) _ 0 (call-after table k 0 few) (firsts k) j
 
   pub empty-within : BookWithin 0 0 (emptyBook table)
   unfolding pointed
   empty-within =
       record {
-        owns = refl;
-        tolds = refl;
-        upcoming = firsts 33;
-        latest = all-same (λ c. c < 1025) 33 0 (omega arith);
-        own = all-same (λ x. x ≤ 10) 1025 0 (omega arith);
-        told = all-same (λ x. x ≤ valueLimit) 1025 0 (omega arith);
-        rows = record {
+        upcoming = firsts byStation;
+        latest = all-same (λ c. c < byCall) byStation 0 (omega arith);
+        own = all-same (λ x. x ≤ 10) byCall 0 (omega arith);
+        result = all-same (λ x. x < valueLimit) byCall 0 (omega arith);
+        last = all-same (λ x. x ≤ 0) byCall 0 (omega arith);
+        points = record {
           points = refl;
           listed = refl;
           none = refl;
-          point = all-same (λ x. x ≤ 0) 1025 0 (omega arith);
+          latest = all-same (λ x. x ≤ 0) byCall 0 (omega arith);
           calls = λ i. omega arith;
         };
         idle = omega arith;

@@ -2,7 +2,7 @@
 -- Assumes nothing.
 use mathlib.Core.Bool.{cond, not}
 use mathlib.Core.List.{List, [], _++_}
-use Prim.Native.Nat.{ℕ, zero, suc, _-_, _%_}
+use Prim.Native.Nat.{ℕ, zero, suc}
 use lib.Dec.{eqb}
 use lib.ListN.{getD}
 use Rattle.script.specs.Quote.{quote}
@@ -10,6 +10,7 @@ use Rattle.script.specs.Decimal.{decimal}
 use Rattle.script.specs.Kind.{kindWord}
 use Rattle.runfile.specs.Layout.{callOf}
 use Rattle.run.specs.declared.Trace.{Trace}
+use Rattle.run.specs.Book.{Book}
 use Rattle.lines.specs.declared.Line.{Line}
 
 abbrev pub newline : List ℕ
@@ -33,33 +34,28 @@ lineText l =
     field (l .place) ++ field (l .station) ++ field (l .call) ++ spaced (kindWord (l .kind)) ++ spaced (answerWord l) ++ field (l .own) ++ decimal (l .point)
     ++ newline
 
--- a call that has not ended has been told 0, any other its answer, of 32 bits, plus 1
-abbrev pub answerOf : ℕ → ℕ
-answerOf told = (told - 1) % 4294967296
-
--- the line of call c at a place of the list, from the call table and the book's rows
-abbrev pub lineOf : List ℕ → List ℕ → List ℕ → List ℕ → ℕ → ℕ → Line
-lineOf table own told point place c =
+-- the line of call c at a place of the list, from the call table and the book; a call that has not ended has no last turn
+abbrev pub lineOf : List ℕ → Book → ℕ → ℕ → Line
+lineOf table b place c =
     record {
       place = place;
       station = callOf table c .station;
       call = c;
       kind = callOf table c .kind;
-      ended = not (eqb (getD told c 0) 0);
-      answer = answerOf (getD told c 0);
-      own = getD own c 0;
-      point = getD point c 0;
+      ended = not (eqb (getD (b .last) c 0) 0);
+      answer = getD (b .result) c 0;
+      own = getD (b .own) c 0;
+      point = getD (b .point) c 0;
     }
 
 -- the first i lines
-unfoldable pub linesText : List ℕ → List ℕ → List ℕ → List ℕ → List ℕ → ℕ → List ℕ
-linesText table own told point list zero = []
-linesText table own told point list (suc i) =
-    linesText table own told point list i ++ lineText (lineOf table own told point (suc i) (getD list i 0))
+unfoldable pub linesText : List ℕ → Book → ℕ → List ℕ
+linesText table b zero = []
+linesText table b (suc i) = linesText table b i ++ lineText (lineOf table b (suc i) (getD (b .list) i 0))
 
 -- turns, idle turns, calls begun, calls ended, V.val, V.seq
 unfoldable pub lastText : Trace → List ℕ
 lastText t = field (t .turns) ++ field (t .idle) ++ field (t .begun) ++ field (t .ended) ++ field (t .val) ++ decimal (t .seq) ++ newline
 
-unfoldable pub sheetText : Trace → List ℕ → List ℕ → List ℕ → List ℕ → List ℕ → List ℕ
-sheetText t table own told point list = linesText table own told point list (t .listed) ++ lastText t
+unfoldable pub sheetText : Trace → List ℕ → Book → List ℕ
+sheetText t table b = linesText table b (t .listed) ++ lastText t

@@ -1,8 +1,18 @@
 // The text of a report: a line for each listed call and a last line, written to a lent buffer as far as it goes.
 ghost use mathlib.Core.Path.{_≡_};
+ghost use Prim.Native.Nat.{_≤_};
 ghost use lib.ListN.{getD};
 ghost use Rattle.script.specs.Wrote.{Wrote};
-ghost use Rattle.lines.specs.Lines.{answerOf, field, answerWord, lineText, lineOf, linesText, lastText, sheetText};
+ghost use Rattle.runfile.specs.Layout.{part};
+ghost use Rattle.run.specs.Row.{byCall, rowPlaces};
+ghost use Rattle.run.specs.Trace.{bookOf};
+ghost use Rattle.lines.specs.Lines.{field, answerWord, lineText, lineOf, linesText, lastText, sheetText};
+use run::BY_CALL;
+use run::LAST;
+use run::LIST;
+use run::OWN;
+use run::POINT;
+use run::RESULT;
 use run::Trace;
 use runfile::call_at;
 use script::decimal;
@@ -62,74 +72,53 @@ fn put_line(out: &mut [u8], at: usize, l: Line) -> usize
     put(out, o9, b'\n')
 }
 
-// A number of a row, 0 past its end.
-fn cell(row: &[u32], i: usize) -> u32
-    ensures { λ r. ⌜ r ≡ getD (now (row .entry)) i 0 ⌝ }
+// The number at place i of the part by call that starts at a place of the row; 0 past the part's end, or the row's.
+fn cell(row: &[u32], start: usize, i: usize) -> u32
+    requires { ⌜ start ≤ rowPlaces ⌝ }
+    ensures { λ r. ⌜ r ≡ getD (part (now (row .entry)) start byCall) i 0 ⌝ }
 {
-    if i < row.len() {
-        return row[i];
-    }
-    0
-}
-
-fn wide_cell(row: &[u64], i: usize) -> u64
-    ensures { λ r. ⌜ r ≡ getD (now (row .entry)) i 0 ⌝ }
-{
-    if i < row.len() {
-        return row[i];
-    }
-    0
-}
-
-// The answer that was told; 0 where none was.
-fn answer_of(told: u64) -> u32
-    ensures { λ r. ⌜ r ≡ answerOf told ⌝ }
-{
-    if told == 0 {
+    if BY_CALL <= i {
         return 0;
     }
-    ((told - 1) % 4294967296) as u32
+    let at = start + i;
+    if row.len() <= at {
+        return 0;
+    }
+    row[at]
 }
 
 // Call c's line at a place of the list.
-fn line_of(table: &[u8], own: &[u32], told: &[u64], point: &[u32], place: u32, c: u32) -> Line
-    ensures { λ r. ⌜ r ≡ lineOf (now (table .entry)) (now (own .entry)) (now (told .entry)) (now (point .entry)) place c ⌝ }
+fn line_of(table: &[u8], t: Trace, row: &[u32], place: u32, c: u32) -> Line
+    ensures { λ r. ⌜ r ≡ lineOf (now (table .entry)) (bookOf t (now (row .entry))) place c ⌝ }
 {
     let at = c as usize;
     let r = call_at(table, at);
-    let t = wide_cell(told, at);
-    let o = cell(own, at);
-    let p = cell(point, at);
-    let answer = answer_of(t);
+    let own = cell(row, OWN, at);
+    let answer = cell(row, RESULT, at);
+    let last = cell(row, LAST, at);
+    let point = cell(row, POINT, at);
     Line {
         place,
         station: r.station,
         call: c,
         kind: r.kind,
-        ended: t != 0,
+        ended: last != 0,
         answer,
-        own: o,
-        point: p,
+        own,
+        point,
     }
 }
 
-fn put_lines(
-    out: &mut [u8],
-    listed: u32,
-    table: &[u8],
-    own: &[u32],
-    told: &[u64],
-    point: &[u32],
-    list: &[u32],
-) -> usize
-    ensures { λ r. ⌜ Wrote (now (out .entry)) (now (out .exit)) 0 r (linesText (now (table .entry)) (now (own .entry)) (now (told .entry)) (now (point .entry)) (now (list .entry)) listed) ⌝ }
+fn put_lines(out: &mut [u8], t: Trace, table: &[u8], row: &[u32]) -> usize
+    ensures { λ r. ⌜ Wrote (now (out .entry)) (now (out .exit)) 0 r (linesText (now (table .entry)) (bookOf t (now (row .entry))) (t .listed)) ⌝ }
 {
+    let listed = t.listed;
     let mut i: u32 = 0;
     let mut o = 0;
     while i < listed {
-        let c = cell(list, i as usize);
+        let c = cell(row, LIST, i as usize);
         i = i + 1;
-        let l = line_of(table, own, told, point, i, c);
+        let l = line_of(table, t, row, i, c);
         o = put_line(out, o, l);
     }
     o
@@ -147,19 +136,10 @@ fn put_last(out: &mut [u8], at: usize, t: Trace) -> usize
     put(out, o6, b'\n')
 }
 
-// The whole sheet, from the front of the buffer on.
-pub fn put_sheet(
-    out: &mut [u8],
-    t: Trace,
-    table: &[u8],
-    own: &[u32],
-    told: &[u64],
-    point: &[u32],
-    list: &[u32],
-) -> usize
-    ensures { λ r. ⌜ Wrote (now (out .entry)) (now (out .exit)) 0 r (sheetText t (now (table .entry)) (now (own .entry)) (now (told .entry)) (now (point .entry)) (now (list .entry))) ⌝ }
+// The whole sheet of a trace and its row, from the front of the buffer on.
+pub fn put_sheet(out: &mut [u8], t: Trace, table: &[u8], row: &[u32]) -> usize
+    ensures { λ r. ⌜ Wrote (now (out .entry)) (now (out .exit)) 0 r (sheetText t (now (table .entry)) (bookOf t (now (row .entry)))) ⌝ }
 {
-    let listed = t.listed;
-    let o = put_lines(out, listed, table, own, told, point, list);
+    let o = put_lines(out, t, table, row);
     put_last(out, o, t)
 }

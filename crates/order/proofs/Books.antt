@@ -4,7 +4,6 @@ use mathlib.Core.Bool.{Bool, true, false, cond, not, _&&_}
 use mathlib.Core.List.{List, [], _∷_}
 use Prim.Native.Nat.{ℕ, _+_, _≤_, _<_}
 use native.Mathlib.Omega.{arith}
-use borrow.Author.Tests.{ne-eqb}
 use lib.Dec.{eqb}
 use lib.ListN.{length, getD, set, length-set}
 use lib.Seq.{getD-set-same, getD-set-other, set-set}
@@ -15,13 +14,12 @@ use Rattle.method.specs.declared.Answer.the-variants.{Idle, Going, Ended, Refus
 use Rattle.method.specs.Record.{atRest, call}
 use Rattle.method.specs.Update.{upd}
 use Rattle.method.specs.Operation.{operates}
-use Rattle.method.proofs.Upd.{upd-same, upd-other, upd-all}
+use Rattle.method.proofs.Upd.{upd-same, upd-all}
 use Rattle.bench.specs.declared.Bench.{Bench}
 use Rattle.bench.specs.Record.{stationAt}
 use Rattle.bench.specs.Points.{pointsIn}
 use Rattle.bench.specs.Promise.{Turn}
 use Rattle.run.specs.Calls.{callAfter, callFor}
-use Rattle.run.specs.Rows.{enterCall}
 use Rattle.run.specs.Book.{Book}
 use Rattle.run.specs.Book as Book
 use Rattle.run.specs.Run.{noted}
@@ -48,13 +46,14 @@ pub record Matches (b : Book) (g : Journal) : Type 0 where
   pub latest : Row 33 (b .latest) (g .latest)
   pub within : (j : ℕ) → g .latest j < 1025
   pub own : Row 1025 (b .own) (g .own)
-  pub told : Row 1025 (b .told) (λ c. cond (eqb (g .last c) 0) 0 (g .result c + 1))
+  pub result : Row 1025 (b .result) (g .result)
+  pub last : Row 1025 (b .last) (g .last)
   pub point : Row 1025 (b .point) (g .point)
   pub list : b .list ≡ g .list
 
 module _ {b : Book} {g : Journal} (m : Matches b g) where
   enters-matches : (now j : ℕ) → Matches (Book.enters now j b) (enters now j g)
-  unfolding enterCall
+  unfolding Book.enters
   enters-matches now j =
       let c = g .latest j in
       let is = m .latest .reads j in
@@ -67,36 +66,28 @@ module _ {b : Book} {g : Journal} (m : Matches b g) where
         latest = m .latest;
         within = m .within;
         own = m .own;
-        told = m .told;
+        result = m .result;
+        last = m .last;
         point = rw is (written c now now (m .point) (m .within j) refl);
         list = rw (is, m .list);
       }))
-      (λ e. rw (test ∙ e, e) (record { latest = m .latest; within = m .within; own = m .own; told = m .told; point = m .point; list = m .list }))
+      (λ e. rw (test ∙ e, e) (record { latest = m .latest; within = m .within; own = m .own; result = m .result; last = m .last; point = m .point; list = m .list }))
 
-  ends-matches : (now i c result : ℕ) → 1 ≤ now → c ≡ g .latest i → Matches (Book.ends c result b) (ends now i result g)
-  ends-matches now i c result t e =
-      let l = g .latest i in
-      let w = written c (result + 1) (result + 1) (m .told) (omega (arith, e, m .within i)) refl in
+  ends-matches : (now i c result : ℕ) → c ≡ g .latest i → Matches (Book.callEnds now c result b) (ends now i result g)
+  ends-matches now i c result e =
+      let small : c < 1025 = omega (arith, e, m .within i) in
       record {
         latest = m .latest;
         within = m .within;
         own = m .own;
-        told =
-            record {
-              long = w .long;
-              reads =
-                  λ d.
-                  w .reads d ∙ rw e
-                  (upd-all (g .last) l now (λ d f. upd (λ c. cond (eqb (g .last c) 0) 0 (g .result c + 1)) l (result + 1) d ≡ cond (eqb f 0) 0 (upd (g .result) l result d + 1))
-                  (upd-same _ l (result + 1) ∙ rw (ne-eqb now 0 (λ q. omega arith), upd-same (g .result) l result))
-                  (λ d ne. upd-other _ l (result + 1) d ne ∙ rw (upd-other (g .result) l result d ne)) d);
-            };
+        result = rw (← e) (written c result result (m .result) small refl);
+        last = rw (← e) (written c now now (m .last) small refl);
         point = m .point;
         list = m .list;
       }
 
   idles-matches : Matches (Book.idles b) g
-  idles-matches = record { latest = m .latest; within = m .within; own = m .own; told = m .told; point = m .point; list = m .list }
+  idles-matches = record { latest = m .latest; within = m .within; own = m .own; result = m .result; last = m .last; point = m .point; list = m .list }
 
   -- an operation of station i, for call e on offer or its latest one
   module _ (now i e : ℕ) (o : Call) where
@@ -114,7 +105,8 @@ module _ {b : Book} {g : Journal} (m : Matches b g) where
           within = upd-all (g .latest) i e (λ j c. c < 1025) small (λ j ne. m .within j);
           own =
               rw (h, ← set-set (b .own) e 0 n) (written e n (upd (g .own) e 0 e + 1) (written e 0 0 (m .own) small refl) small (rw h at q));
-          told = m .told;
+          result = m .result;
+          last = m .last;
           point = m .point;
           list = m .list;
         }
@@ -123,7 +115,8 @@ module _ {b : Book} {g : Journal} (m : Matches b g) where
           latest = m .latest;
           within = m .within;
           own = rw (m .latest .reads i) (written (g .latest i) n (g .own (g .latest i) + 1) (m .own) (m .within i) q);
-          told = m .told;
+          result = m .result;
+          last = m .last;
           point = m .point;
           list = m .list;
         }
@@ -156,7 +149,7 @@ module _ {b : Book} {g : Journal} (m : Matches b g) (table : List ℕ) (w : Benc
   noted-matches (Ended result took) inside going ended =
       let js = pointsIn w i (Ended result took) in
       let a = all-enter-matches now js (acts-matches m now i e o rests (callAfter table i (cond rests e (getD (b .latest) i 0))) took inside small (ended result took refl)) in
-      ends-matches a now i _ result t (call-is m now i e o rests ∙ sym (ap (λ (f : ℕ → ℕ). f i) (enter-all now js (acts rests now e i o g) .latest)))
+      ends-matches a now i _ result (call-is m now i e o rests ∙ sym (ap (λ (f : ℕ → ℕ). f i) (enter-all now js (acts rests now e i o g) .latest)))
   noted-matches (Refused number) inside going ended = m
 
 -- a station that begins a call has its next one on offer then

@@ -138,7 +138,8 @@ filed-start x n table steps low high =
             latest = record { long = refl; reads = everywhere 0 33 };
             within = λ j. omega arith;
             own = record { long = refl; reads = everywhere 0 1025 };
-            told = record { long = refl; reads = everywhere 0 1025 };
+            result = record { long = refl; reads = everywhere 0 1025 };
+            last = record { long = refl; reads = everywhere 0 1025 };
             point = record { long = refl; reads = everywhere 0 1025 };
             list = refl;
           };
@@ -183,5 +184,5 @@ every-file file well =
           };
       inOrder = same;
       calls = f .plan .calls;
-      booked = λ c. record { own = f .matches .own .reads c; told = f .matches .told .reads c; point = f .matches .point .reads c };
+      booked = λ c. record { own = f .matches .own .reads c; result = f .matches .result .reads c; last = f .matches .last .reads c; point = f .matches .point .reads c };
     }

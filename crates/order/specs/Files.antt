@@ -33,10 +33,11 @@ pub record InTable (table : List ℕ) (c station : ℕ) (o : Call) : Type 0 wher
   pub maker : station ≡ callOf table c .station
   pub what : o ≡ call (callOf table c .kind) (callOf table c .a) (callOf table c .b)
 
--- what the book says of a call is what is known of it: own turns, the answer plus 1 once it has ended, the turn of its point
+-- what the book says of a call is what is known of it: own turns, the answer and the turn in which it ended, the turn of its point
 pub record Booked (b : Book) (g : Log) (c : ℕ) : Type 0 where
   pub own : getD (b .own) c 0 ≡ g .own c
-  pub told : getD (b .told) c 0 ≡ cond (eqb (g .last c) 0) 0 (g .result c + 1)
+  pub result : getD (b .result) c 0 ≡ g .result c
+  pub last : getD (b .last) c 0 ≡ g .last c
   pub point : getD (b .point) c 0 ≡ g .point c
 
 pub record FileRun (file : List ℕ) : Type 0 where

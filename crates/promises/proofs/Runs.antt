@@ -11,8 +11,7 @@ use Rattle.runfile.specs.Layout.{callOf, fileOf, trailerBytes}
 use Rattle.runfile.specs.Reading.{badCall, firstCall, firstTurn, readOf}
 use Rattle.bench.specs.Sound.{eachEntry, entryKept, sound}
 use Rattle.bench.specs.Turn.{freshOf, turnOf}
-use Rattle.run.specs.Rows.{enterCall}
-use Rattle.run.specs.Book.{allEnter}
+use Rattle.run.specs.Book.{enters, allEnter}
 use Rattle.run.specs.Calls.{callAfter}
 use Rattle.run.specs.Run.{firstCalls, noted, runFrom}
 use Rattle.lines.specs.Lines.{answerWord, lineText, linesText, lastText, sheetText}
@@ -20,5 +19,5 @@ use Rattle.sheet.specs.Report.{reportText}
 use Rattle.promises.specs.Runs.{RunsToCheck}
 
 pub runs-to-check : RunsToCheck
-unfolding bytes spelled decimal digitsIn losers points row firstFrom callOf fileOf trailerBytes badCall firstCall firstTurn readOf eachEntry entryKept sound freshOf turnOf enterCall allEnter callAfter firstCalls noted runFrom kindWord answerWord lineText linesText lastText sheetText reportText
+unfolding bytes spelled decimal digitsIn losers points row firstFrom callOf fileOf trailerBytes badCall firstCall firstTurn readOf eachEntry entryKept sound freshOf turnOf enters allEnter callAfter firstCalls noted runFrom kindWord answerWord lineText linesText lastText sheetText reportText
 runs-to-check = record { good = refl; reports = refl; register = card .r9 }

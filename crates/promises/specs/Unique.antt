@@ -15,19 +15,10 @@ pub record Left (X : Type 0) : Type 0 where
   pub result : X
   pub out : List ℕ
 
--- the trace of a run, and the four rows that were lent for it
-pub record LeftRows : Type 0 where
-  pub trace : Trace
-  pub own : List ℕ
-  pub told : List ℕ
-  pub point : List ℕ
-  pub list : List ℕ
-
 abbrev pub Unique : (X : Type 0) → (X → Type 0) → Type 0
 Unique X allowed = (x y : X) → allowed x → allowed y → x ≡ y
 
 -- each by the predicate that its function ensures
 pub record OneResult : Type 0 where
   pub picture : (w : Bench) (out : List ℕ) → Unique (Left Drawing) (λ r. DrawnTo w out (r .result) (r .out))
-  pub traced : (file own told point list : List ℕ)
-      → Unique LeftRows (λ r. TracedTo file own told point list (r .trace) (r .own) (r .told) (r .point) (r .list))
+  pub traced : (file row : List ℕ) → Unique (Left Trace) (λ r. TracedTo file row (r .result) (r .out))

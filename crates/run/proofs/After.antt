@@ -1,5 +1,5 @@
--- The rows after a turn still hold the book of the run. Assumes nothing.
-use mathlib.Core.Path.{_≡_, refl, _∙_, sym, ap}
+-- The row after a turn still holds the notes of the run. Assumes nothing.
+use mathlib.Core.Path.{_≡_, refl, _∙_, sym, ap, subst⁻¹}
 use mathlib.Core.Logic.{_⊎_, inl, inr, ⊎-elim}
 use mathlib.Core.Bool.{Bool, true, false}
 use mathlib.Core.List.{List}
@@ -12,132 +12,128 @@ use Rattle.method.specs.declared.Station.{Station}
 use Rattle.method.specs.declared.Answer.{Answer}
 use Rattle.method.specs.declared.Answer.the-variants.{Idle, Going, Ended, Refused}
 use Rattle.method.specs.Record.{atRest, resting}
-use Rattle.method.specs.Effect.{oneWord, points}
 use Rattle.bench.specs.declared.Bench.{Bench}
 use Rattle.bench.specs.Record.{stationAt}
+use Rattle.bench.specs.Points.{pointsIn}
 use Rattle.runfile.specs.Layout.{records, callOf}
 use Rattle.run.specs.declared.Tally.{Tally}
 use Rattle.run.specs.Calls.{callAfter, waits}
-use Rattle.run.specs.Rows.{Fits}
-use Rattle.run.specs.Book.{Book, acts, allEnter, bookOf}
+use Rattle.run.specs.Book.{Book, acts, allEnter}
+use Rattle.run.specs.Row.{byStation, sizeOf, startOf, partOf, wrote, bookIn, Notes, notesBy, notesIn, pointed, Fits, Becomes}
 use Rattle.run.specs.Run.{noted}
-use Rattle.run.specs.Drive.{Rows}
-use Rattle.run.proofs.Points.{within-set}
-use Rattle.run.proofs.Books.{enter-all}
+use Rattle.run.specs.Drive.{NotesOf}
+use Rattle.run.proofs.Written.{written, long}
+use Rattle.run.proofs.Books.{enter-all, acts-ended}
 use Rattle.run.proofs.Steps.{mine-after}
 
--- what a turn of station i for call c leaves of a book: its rows by station as they were or with one entry more, its rows by call as long as they were
-record Leaves (i c d : ℕ) (b b′ : Book) : Type 0 where
+-- what a turn of station i leaves of a book, where call d comes next: the row of next calls as it was or with one entry more, and counts with one more at most
+record Leaves (i d : ℕ) (b b′ : Book) : Type 0 where
   upcoming : (b′ .upcoming ≡ b .upcoming) ⊎ (b′ .upcoming ≡ set (b .upcoming) i d)
-  latest : (b′ .latest ≡ b .latest) ⊎ (b′ .latest ≡ set (b .latest) i c)
-  own : length (b′ .own) ≡ length (b .own)
-  told : length (b′ .told) ≡ length (b .told)
   idle : b′ .idle ≤ b .idle + 1
   begun : b′ .begun ≤ b .begun + 1
   ended : b′ .ended ≤ b .ended + 1
 
-acts-leaves : (rests : Bool) (i c d turns : ℕ) (b : Book) → Leaves i c d b (acts rests i c d turns b)
-acts-leaves true i c d turns b = record { upcoming = inr refl; latest = inr refl; own = length-set (b .own) c turns; told = refl; idle = omega arith; begun = omega arith; ended = omega arith }
-acts-leaves false i c d turns b = record { upcoming = inl refl; latest = inl refl; own = length-set (b .own) c turns; told = refl; idle = omega arith; begun = omega arith; ended = omega arith }
-
-acts-ended : (rests : Bool) (i c d turns : ℕ) (b : Book) → acts rests i c d turns b .ended ≡ b .ended
-acts-ended true i c d turns b = refl
-acts-ended false i c d turns b = refl
+acts-leaves : (rests : Bool) (i c d turns : ℕ) (b : Book) → Leaves i d b (acts rests i c d turns b)
+acts-leaves true i c d turns b = record { upcoming = inr refl; idle = omega arith; begun = omega arith; ended = omega arith }
+acts-leaves false i c d turns b = record { upcoming = inl refl; idle = omega arith; begun = omega arith; ended = omega arith }
 
 -- points change neither
-enter-leaves : {i c d : ℕ} {b b′ : Book} (turn : ℕ) (js : List ℕ) → Leaves i c d b b′ → Leaves i c d b (allEnter turn js b′)
-enter-leaves {i} {c} {d} {b} {b′} turn js l =
+enter-leaves : {i d : ℕ} {b b′ : Book} (turn : ℕ) (js : List ℕ) → Leaves i d b b′ → Leaves i d b (allEnter turn js b′)
+enter-leaves {i} {d} {b} {b′} turn js l =
     let e = sym (enter-all turn js b′) in
     record {
       upcoming = ⊎-elim (λ q. inl (ap (λ z. z .upcoming) e ∙ q)) (λ q. inr (ap (λ z. z .upcoming) e ∙ q)) (l .upcoming);
-      latest = ⊎-elim (λ q. inl (ap (λ z. z .latest) e ∙ q)) (λ q. inr (ap (λ z. z .latest) e ∙ q)) (l .latest);
-      own = ap (λ z. length (z .own)) e ∙ l .own;
-      told = ap (λ z. length (z .told)) e ∙ l .told;
       idle = omega (arith, ap (λ z. z .idle) e, l .idle);
       begun = omega (arith, ap (λ z. z .begun) e, l .begun);
       ended = omega (arith, ap (λ z. z .ended) e, l .ended);
     }
 
-noted-leaves : (table : List ℕ) (w : Bench) (turn i c own : ℕ) (x : Answer) (b : Book) → Leaves i c (callAfter table i c) b (noted table w turn i c own x b)
+noted-leaves : (table : List ℕ) (w : Bench) (turn i c own : ℕ) (x : Answer) (b : Book) → Leaves i (callAfter table i c) b (noted table w turn i c own x b)
 unfolding noted
-noted-leaves table w turn i c own Idle b = record { upcoming = inl refl; latest = inl refl; own = refl; told = refl; idle = omega arith; begun = omega arith; ended = omega arith }
+noted-leaves table w turn i c own Idle b = record { upcoming = inl refl; idle = omega arith; begun = omega arith; ended = omega arith }
 noted-leaves table w turn i c own Going b =
-    let t = stationAt w i in
-    enter-leaves turn (points oneWord (stationAt w) (w .n) i (t .place) (w .v) t Going) (acts-leaves (atRest (t .place)) i c (callAfter table i c) own b)
+    enter-leaves turn (pointsIn w i Going) (acts-leaves (atRest (stationAt w i .place)) i c (callAfter table i c) own b)
 noted-leaves table w turn i c own (Ended result took) b =
-    let t = stationAt w i in
-    let js = points oneWord (stationAt w) (w .n) i (t .place) (w .v) t (Ended result took) in
-    let a = acts (atRest (t .place)) i c (callAfter table i c) took b in
-    let l = enter-leaves turn js (acts-leaves (atRest (t .place)) i c (callAfter table i c) took b) in
+    let rests = atRest (stationAt w i .place) in
+    let js = pointsIn w i (Ended result took) in
+    let a = acts rests i c (callAfter table i c) took b in
+    let l = enter-leaves turn js (acts-leaves rests i c (callAfter table i c) took b) in
     record {
       upcoming = l .upcoming;
-      latest = l .latest;
-      own = l .own;
-      told = length-set (allEnter turn js a .told) c (result + 1) ∙ l .told;
       idle = l .idle;
       begun = l .begun;
-      ended = omega (arith, sym (ap (λ z. z .ended) (enter-all turn js a)), acts-ended (atRest (t .place)) i c (callAfter table i c) took b);
+      ended = omega (arith, sym (ap (λ z. z .ended) (enter-all turn js a)), acts-ended rests i c (callAfter table i c) took b);
     }
-noted-leaves table w turn i c own (Refused number) b = record { upcoming = inl refl; latest = inl refl; own = refl; told = refl; idle = omega arith; begun = omega arith; ended = omega arith }
+noted-leaves table w turn i c own (Refused number) b = record { upcoming = inl refl; idle = omega arith; begun = omega arith; ended = omega arith }
 
-module _ (w w′ : Bench) (table next head latest wait own told point list head′ latest′ own′ told′ point′ list′ : List ℕ) (s s′ : Tally)
-    (turn i c turns : ℕ) (x : Answer) (ht : Station)
-    (rows : Rows w table next head latest wait own told point list s)
-    (book : bookOf head′ latest′ own′ told′ point′ list′ s′ ≡ noted table w turn i c turns x (bookOf head latest own told point list s))
-    (fits : Fits point′ list′ (s′ .listed) turn)
-    (stations : w′ .stations ≡ set (w .stations) i ht) (inside : i < 33) (small : c < 1025) where
+module _ (w w′ : Bench) (table row row′ : List ℕ) (s s′ : Tally) (turn i c turns : ℕ) (x : Answer) (ht : Station)
+    (fits : Fits row s) (notes : NotesOf table w (notesIn row s)) (became : Becomes row s (noted table w turn i c turns x) row′ s′)
+    (stations : w′ .stations ≡ set (w .stations) i ht) (inside : i < byStation) where
   abbrev b : Book
-  b = bookOf head latest own told point list s
+  b = bookIn row s
 
-  left : Leaves i c (callAfter table i c) b (noted table w turn i c turns x b)
+  -- with what the station waits for
+  abbrev pub row″ : List ℕ
+  row″ = set row′ (5158 + i) (waits ht)
+
+  one : partOf row″ ≡ wrote (partOf row′) 6 i (waits ht)
+  unfolding startOf sizeOf
+  one = written row′ 6 i (waits ht) inside
+
+  abbrev m : Notes
+  m = record { book = noted table w turn i c turns x b; next = partOf row 8; wait = set (partOf row 6) i (waits ht) }
+
+  pub notes-are : notesIn row″ s′ ≡ m
+  notes-are =
+      ap (λ parts. notesBy parts s′) one ∙ ap (λ z. record { book = z .book; next = z .next; wait = set (z .wait) i (waits ht) }) (became .notes)
+
+  pub fits-after : Fits row″ s′
+  fits-after = record {
+    places = length-set row′ (5158 + i) (waits ht) ∙ became .fits .places;
+    all = became .fits .all ∙ ap (λ (parts : ℕ → List ℕ). pointed (parts 3)) (sym one);
+    within = λ j. rw one (became .fits .within j);
+  }
+
+  left : Leaves i (callAfter table i c) b (noted table w turn i c turns x b)
   left = noted-leaves table w turn i c turns x b
-
-  head-is : (head′ ≡ head) ⊎ (head′ ≡ set head i (callAfter table i c))
-  head-is = ⊎-elim (λ q. inl (ap (λ z. z .upcoming) book ∙ q)) (λ q. inr (ap (λ z. z .upcoming) book ∙ q)) (left .upcoming)
-
-  latest-is : (latest′ ≡ latest) ⊎ (latest′ ≡ set latest i c)
-  latest-is = ⊎-elim (λ q. inl (ap (λ z. z .latest) book ∙ q)) (λ q. inr (ap (λ z. z .latest) book ∙ q)) (left .latest)
 
   Mine : List ℕ → ℕ → Type 0
   Mine l j = (getD l j 0 ≡ 0) ⊎ ((callOf table (getD l j 0) .station ≡ j) × (getD l j 0 ≤ records table))
 
-  mine-still : (j : ℕ) → j < 33 → Mine head′ j
-  unfolding Mine
+  mine-still : (j : ℕ) → j < byStation → Mine (m .book .upcoming) j
+  unfolding Mine sizeOf
   mine-still j h =
-      ⊎-elim (λ q. rw q (rows .mine j h))
+      ⊎-elim (λ q. rw q (notes .mine j h))
       (λ q.
       rw q
       (elim (ℕ-discrete j i) [
-        | yes e ↦ rw (e, getD-set-same head i (callAfter table i c) 0 (omega (arith, rows .heads))) (mine-after table i c)
-        | no n ↦ rw (getD-set-other head i j (callAfter table i c) 0 n) (rows .mine j h)
+        | yes e ↦ rw (e, getD-set-same (partOf row 7) i (callAfter table i c) 0 (omega (arith, long row 7 (fits .places) (omega arith)))) (mine-after table i c)
+        | no n ↦ rw (getD-set-other (partOf row 7) i j (callAfter table i c) 0 n) (notes .mine j h)
       ]))
-      head-is
+      (left .upcoming)
 
-  waiting-still : (j : ℕ) → j < 33 → getD (set wait i (waits ht)) j 0 ≡ waits (stationAt w′ j)
+  waiting-still : (j : ℕ) → j < byStation → getD (m .wait) j 0 ≡ waits (stationAt w′ j)
+  unfolding sizeOf
   waiting-still j h =
       elim (ℕ-discrete j i) [
-        | yes e ↦ rw (e, getD-set-same wait i (waits ht) 0 (omega (arith, rows .waiters)))
-            (ap waits (sym (ap (λ l. getD l i (resting 0)) stations ∙ getD-set-same (w .stations) i ht (resting 0) (omega (arith, rows .stations)))))
-        | no n ↦ getD-set-other wait i j (waits ht) 0 n ∙ rows .waiting j h
+        | yes e ↦ rw (e, getD-set-same (partOf row 6) i (waits ht) 0 (omega (arith, long row 6 (fits .places) (omega arith))))
+            (ap waits (sym (ap (λ l. getD l i (resting 0)) stations ∙ getD-set-same (w .stations) i ht (resting 0) (omega (arith, notes .stations)))))
+        | no n ↦ getD-set-other (partOf row 6) i j (waits ht) 0 n ∙ notes .waiting j h
             ∙ ap waits (sym (ap (λ l. getD l j (resting 0)) stations ∙ getD-set-other (w .stations) i j ht (resting 0) n))
       ]
 
-  pub rows-after : Rows w′ table next head′ latest′ (set wait i (waits ht)) own′ told′ point′ list′ s′
+  pub notes-after : NotesOf table w′ (notesIn row″ s′)
   unfolding Mine
-  rows-after =
-      record {
-        nexts = rows .nexts;
-        heads = ⊎-elim (λ q. ap length q ∙ rows .heads) (λ q. ap length q ∙ length-set head i _ ∙ rows .heads) head-is;
-        latests = ⊎-elim (λ q. ap length q ∙ rows .latests) (λ q. ap length q ∙ length-set latest i c ∙ rows .latests) latest-is;
-        owns = ap (λ z. length (z .own)) book ∙ left .own ∙ rows .owns;
-        tolds = ap (λ z. length (z .told)) book ∙ left .told ∙ rows .tolds;
-        stations = ap length stations ∙ length-set (w .stations) i ht ∙ rows .stations;
-        fits = record { points = fits .points; places = fits .places; all = fits .all; now = omega arith };
-        within = ⊎-elim (λ q j. rw q (rows .within j)) (λ q j. rw q (within-set latest i c small (rows .within) j)) latest-is;
+  notes-after =
+      subst⁻¹ (λ z. NotesOf table w′ z) notes-are
+      (record {
+        stations = ap length stations ∙ length-set (w .stations) i ht ∙ notes .stations;
         mine = mine-still;
-        waiters = length-set wait i (waits ht) ∙ rows .waiters;
+        after = notes .after;
         waiting = waiting-still;
-      }
+      })
 
   pub counts-after : (s′ .idle ≤ s .idle + 1) × (s′ .begun ≤ s .begun + 1) × (s′ .ended ≤ s .ended + 1)
-  counts-after = (omega (arith, ap (λ z. z .idle) book, left .idle), omega (arith, ap (λ z. z .begun) book, left .begun), omega (arith, ap (λ z. z .ended) book, left .ended))
+  counts-after =
+      let e = ap (λ z. z .book) (became .notes) in
+      (omega (arith, ap (λ z. z .idle) e, left .idle), omega (arith, ap (λ z. z .begun) e, left .begun), omega (arith, ap (λ z. z .ended) e, left .ended))

@@ -1,11 +1,13 @@
-pub mod Links
+pub mod Written
 pub mod Points
 pub mod Books
+pub mod Clears
+pub mod Links
 pub mod Steps
 pub mod After
 pub mod Sizes
-pub mod Loop
 pub mod Files
+pub mod Loop
 pub mod Start
-pub mod Clears
 pub mod Traces
+pub mod Back

@@ -1,18 +1,21 @@
--- Whose next call is which, from the table's end down. Assumes nothing.
+-- Whose next call is which, from the table's end down, in lists and in the row. Assumes nothing.
 use mathlib.Core.Path.{_≡_, refl, _∙_, sym, ap}
 use mathlib.Core.Bool.{Bool, true, false, cond, not, _&&_}
-use mathlib.Core.List.{List}
-use Prim.Native.Nat.{ℕ, zero, suc, _-_, _<_, _≤_}
+use mathlib.Core.List.{List, _++_}
+use Prim.Native.Nat.{ℕ, zero, suc, _+_, _-_, _<_, _≤_}
 use native.Mathlib.Omega.{arith}
 use native.Mathlib.Decide.{ℕ-discrete}
 use borrow.Author.Tests.{eq-eqb, ne-eqb, eqb-true, not-false}
 use Rattle.method.specs.Record.{call}
 use lib.Dec.{eqb}
-use lib.ListN.{length, getD, set, replicate, getD-replicate}
-use lib.Seq.{getD-set-same, getD-set-other}
+use lib.ListN.{length, getD, set, take, drop, replicate, getD-replicate, length-set, length-replicate, replicate-append-replicate}
+use lib.Seq.{getD-set-same, getD-set-other, take-at, drop-at}
 use Rattle.runfile.specs.First.{firstFrom}
 use Rattle.runfile.specs.Layout.{records, callOf}
 use Rattle.run.specs.Calls.{callAfter, offer, Linked}
+use Rattle.run.specs.Row.{byStation, sizeOf, startOf, rowPlaces, zeroRow, partOf, wrote}
+use Rattle.run.specs.Drive.{LinkedIn}
+use Rattle.run.proofs.Written.{in-order, written, read, long}
 
 -- no call stands after the last
 pub none-after : (table : List ℕ) (i c : ℕ) → records table ≤ c → callAfter table i c ≡ 0
@@ -69,6 +72,71 @@ link-down table next head zero p h n l o k = absurd (omega arith)
 link-down table next head (suc c) p h n l o k =
     let e : suc c - 1 ≡ c = omega arith in
     rw e (link-more table next head c h n (sym l) o k)
+
+-- a part of zeros
+zero-part : (a k m : ℕ) → a + k ≤ m → take k (drop a (replicate m 0)) ≡ replicate {A = ℕ} k 0
+zero-part a k m h =
+    let r = m - (a + k) in
+    let e : m ≡ a + (k + r) = omega arith in
+    let zeros : (n : ℕ) → List ℕ = λ n. replicate n 0 in
+    ap (λ n. take k (drop a (zeros n))) e
+    ∙ ap (λ l. take k (drop a l)) (sym (replicate-append-replicate a (k + r) 0))
+    ∙ ap (take k) (drop-at (zeros a) (zeros (k + r)) a (length-replicate a 0))
+    ∙ ap (take k) (sym (replicate-append-replicate k r 0))
+    ∙ take-at (zeros k) (zeros r) k (length-replicate k 0)
+
+pub zeros-in : (q : ℕ) → q < 9 → partOf zeroRow q ≡ replicate (sizeOf q) 0
+unfolding startOf sizeOf zeroRow partOf
+zeros-in q h =
+    let fits : startOf q + sizeOf q ≤ 6249 = in-order q 9 h in
+    zero-part (startOf q) (sizeOf q) 6249 fits
+
+pub zero-places : length zeroRow ≡ rowPlaces
+unfolding zeroRow
+zero-places = length-replicate {A = ℕ} rowPlaces 0
+
+-- nothing linked yet, in a row of zeros
+pub unlinked-in : (table row : List ℕ) → row ≡ zeroRow → LinkedIn table row (records table)
+unfolding sizeOf
+unlinked-in table row e =
+    rw e
+    (record {
+      places = zero-places;
+      zeros = λ q h. zeros-in q (omega arith);
+      linked = rw (zeros-in 7 (omega arith)) (unlinked table (partOf zeroRow 8));
+    })
+
+-- a call more, in the row
+module _ (table row : List ℕ) (c : ℕ) (p : 0 < c) (h : c ≤ records table) (few : records table ≤ 1024) (o : callOf table c .station < byStation) (k : LinkedIn table row c) where
+  abbrev i : ℕ
+  i = callOf table c .station
+
+  abbrev x : ℕ
+  x = getD row (5191 + i) 0
+
+  is-head : x ≡ getD (partOf row 7) i 0
+  unfolding startOf sizeOf
+  is-head = sym (read row 7 i o)
+
+  abbrev pub linkedRow : List ℕ
+  linkedRow = set (set row (5224 + c) x) (5191 + i) c
+
+  two : partOf linkedRow ≡ wrote (wrote (partOf row) 8 c x) 7 i c
+  unfolding startOf sizeOf
+  two = written (set row (5224 + c) x) 7 i c o ∙ ap (λ parts. wrote parts 7 i c) (written row 8 c x (omega arith))
+
+  still-zero : (q : ℕ) → q < 7 → partOf linkedRow q ≡ replicate (sizeOf q) 0
+  still-zero q g = ap (λ (parts : ℕ → List ℕ). parts q) two ∙ rw (ne-eqb q 7 (λ e. omega arith), ne-eqb q 8 (λ e. omega arith)) (k .zeros q g)
+
+  pub linked-row : LinkedIn table linkedRow (c - 1)
+  unfolding sizeOf
+  linked-row =
+      let l = long row 8 (k .places) (omega arith) in
+      record {
+        places = length-set (set row (5224 + c) x) (5191 + i) c ∙ length-set row (5224 + c) x ∙ k .places;
+        zeros = still-zero;
+        linked = rw (two, is-head) (link-down table (partOf row 8) (partOf row 7) c p h (omega (arith, l)) (long row 7 (k .places) (omega arith)) o (k .linked));
+      }
 
 -- where there is no call, or the station is in one, none is on offer
 pub none-on-offer : (table : List ℕ) (rests : Bool) (c : ℕ) → (rests && not (eqb c 0)) ≡ false → offer table (cond rests c 0) ≡ call 3 0 0

@@ -35,42 +35,44 @@ use Rattle.bench.proofs.Promised.{turn-sound}
 use Rattle.runfile.specs.Layout.{records, callOf}
 use Rattle.run.specs.declared.Tally.{Tally}
 use Rattle.run.specs.declared.Errand.{Errand}
-use Rattle.run.specs.declared.Went.{Went}
-use Rattle.run.specs.Calls.{callAfter, offer, offering, onOffer, callFor, errandOf, leftOf, waits}
-use Rattle.run.specs.Rows.{CallsWithin, Fits}
-use Rattle.run.specs.Book.{Book, idles, oneIdle, bookOf, Holds, Passed, passes, finishes}
+use Rattle.run.specs.declared.Operation.{Operation}
+use Rattle.run.specs.Calls.{offer, offering, onOffer, callFor, errandOf, operationOf, waits}
+use Rattle.run.specs.Book.{Book, idles, finishes, unended}
+use Rattle.run.specs.Row.{byCall, byStation, sizeOf, startOf, partOf, bookIn, notesIn, Fits, Becomes, HasPlaces}
 use Rattle.run.specs.Run.{Run, noted, stepRun, runFrom}
-use Rattle.run.specs.Drive.{Good, Rows}
+use Rattle.run.specs.Drive.{oneIdle, Good, NotesOf}
+use Rattle.run.proofs.Written.{read}
+use Rattle.run.proofs.Books.{same-change}
 use Rattle.run.proofs.Steps.{moved-turn, idle-turn, acting, ended-noted, going-noted}
-use Rattle.run.proofs.After.{rows-after, counts-after}
+use Rattle.run.proofs.After.{notes-are, fits-after, notes-after, counts-after}
 
 abbrev pub state : Bench → ℕ → Book → Run
 state w k b = record { bench = w; turns = k; book = b }
 
 -- after k turns, from the start s₀ of the run
-pub record Kept (n : ℕ) (start : Run) (table turns next : List ℕ) (w : Bench) (head latest wait own told point list : List ℕ) (s : Tally) (k : ℕ) : Type 0 where
+pub record Kept (n : ℕ) (start : Run) (table turns : List ℕ) (w : Bench) (row : List ℕ) (s : Tally) (k : ℕ) : Type 0 where
   pub count : k ≤ length turns
   pub isSound : sound w ≡ true
   pub same : w .n ≡ n
-  pub rows : Rows w table next head latest wait own told point list s
+  pub fits : Fits row s
+  pub notes : NotesOf table w (notesIn row s)
   pub idle : s .idle ≤ k
   pub begun : s .begun ≤ k
   pub ended : s .ended ≤ k
-  pub run : runFrom table (state w k (bookOf head latest own told point list s)) (drop k turns) ≡ runFrom table start turns
+  pub run : runFrom table (state w k (bookIn row s)) (drop k turns) ≡ runFrom table start turns
 
 one-more : (table turns : List ℕ) (s : Run) (k : ℕ) → k < length turns → runFrom table s (drop k turns) ≡ runFrom table (stepRun table s (getD turns k 0)) (drop (k + 1) turns)
 unfolding runFrom
 one-more table turns s k h = ap (runFrom table s) (drop-cons turns k 0 h) ∙ ap (λ j. runFrom table (stepRun table s (getD turns k 0)) (drop j turns)) (sym (add-one k))
 
 -- after the last turn it is the run
-pub all-turned : (n : ℕ) (start : Run) (table turns next : List ℕ) (w : Bench) (head latest wait own told point list : List ℕ) (s : Tally) (k : ℕ)
-    → Kept n start table turns next w head latest wait own told point list s k → length turns ≤ k
-    → state w (length turns) (bookOf head latest own told point list s) ≡ runFrom table start turns
+pub all-turned : (n : ℕ) (start : Run) (table turns : List ℕ) (w : Bench) (row : List ℕ) (s : Tally) (k : ℕ) → Kept n start table turns w row s k → length turns ≤ k
+    → state w (length turns) (bookIn row s) ≡ runFrom table start turns
 unfolding runFrom
-all-turned n start table turns next w head latest wait own told point list s k kept h =
+all-turned n start table turns w row s k kept h =
     let e : length turns ≡ k = omega (arith, kept .count) in
-    ap (λ j. state w j (bookOf head latest own told point list s)) e
-    ∙ sym (ap (runFrom table (state w k (bookOf head latest own told point list s))) (ap (λ j. drop j turns) (sym e) ∙ drop-length turns)) ∙ kept .run
+    ap (λ j. state w j (bookIn row s)) e
+    ∙ sym (ap (runFrom table (state w k (bookIn row s))) (ap (λ j. drop j turns) (sym e) ∙ drop-length turns)) ∙ kept .run
 
 -- the station of a saved claim is one of the bench
 saved : (p : Place) (n : ℕ) (t : Station) → Stands countLimit n p t → t .saw .pid ≤ n
@@ -85,24 +87,22 @@ saved At18 n t k = omega arith
 saved At19 n t k = omega arith
 saved At20 n t k = omega arith
 
-module _ (n : ℕ) (start : Run) (table turns next : List ℕ) (w : Bench) (head latest wait own told point list : List ℕ) (s : Tally) (k : ℕ)
-    (kept : Kept n start table turns next w head latest wait own told point list s k) (more : k < length turns) (good : Good n table turns)
-    (after : (c : ℕ) → 0 < c → c ≤ records table → getD next c 0 ≡ callAfter table (callOf table c .station) c)
-    (i : ℕ) (is : i ≡ getD turns k 0) where
+module _ (n : ℕ) (start : Run) (table turns : List ℕ) (w : Bench) (row : List ℕ) (s : Tally) (k : ℕ)
+    (kept : Kept n start table turns w row s k) (more : k < length turns) (good : Good n table turns) (i : ℕ) (is : i ≡ getD turns k 0) where
   abbrev t : Station
   t = stationAt w i
 
   abbrev p : Place
   p = t .place
 
+  abbrev b : Book
+  b = bookIn row s
+
   abbrev d : ℕ
-  d = getD head i 0
+  d = getD (b .upcoming) i 0
 
   abbrev l : ℕ
-  l = getD latest i 0
-
-  abbrev b : Book
-  b = bookOf head latest own told point list s
+  l = getD (b .latest) i 0
 
   pub low : 1 ≤ i
   low = rw is (good .turn k more .0)
@@ -113,71 +113,54 @@ module _ (n : ℕ) (start : Run) (table turns next : List ℕ) (w : Bench) (head
   pub few : w .n < 33
   few = omega (arith, facts w (kept .isSound) .head .0 .1 .0)
 
-  pub inside : i < 33
+  pub inside : i < byStation
   inside = omega (arith, high, few)
-
-  pub call-small : callFor p d l < 1025
-  call-small =
-      either-way (atRest p)
-      (λ e. rw e (⊎-elim (λ z. omega arith) (λ m. omega (arith, m .1, good .calls)) (kept .rows .mine i inside)))
-      (λ e. rw e (kept .rows .within i))
 
   abbrev e : Errand
   e = errandOf p (k + 1) i d l
 
-  holds : Holds e next head latest own
-  holds = record {
-    station = inside;
-    call = call-small;
-    nexts = kept .rows .nexts;
-    heads = kept .rows .heads;
-    latests = kept .rows .latests;
-    owns = kept .rows .owns;
-  }
+  -- the errand as the row has it
+  pub errand-is : errandOf p (k + 1) i (getD row (5191 + i) 0) (getD row (5125 + i) 0) ≡ e
+  unfolding startOf sizeOf
+  errand-is = ap (λ x. errandOf p (k + 1) i x (getD row (5125 + i) 0)) (sym (read row 7 i inside)) ∙ ap (errandOf p (k + 1) i d) (sym (read row 5 i inside))
 
-  fits : Fits point list (s .listed) (k + 1)
-  fits = record {
-    points = kept .rows .fits .points;
-    places = kept .rows .fits .places;
-    all = kept .rows .fits .all;
-    now = omega arith;
+  has-places : HasPlaces e
+  has-places = record {
+    station = inside;
+    call =
+        either-way (atRest p)
+        (λ e. rw e (⊎-elim (λ z. omega arith) (λ m. omega (arith, m .1, good .calls)) (kept .notes .mine i inside)))
+        (λ e. rw e (kept .fits .within i));
+    turn = omega arith;
   }
 
   -- what the book asks of a turn that did not end its call
-  pub may-go : Holds e next head latest own × (Fits point list (s .listed) (k + 1) × (CallsWithin latest × ((length wait ≡ 33) × ((s .begun < 65536) × ((n ≤ 32) × ((t .saw .pid ≤ 32) × (s .idle < 65536)))))))
-  may-go =
+  pub may-go : (errand : Errand) (o : Operation) (made : ℕ) → errand ≡ e → o ≡ operationOf t (w .v) made n
+      → Fits row s × (HasPlaces errand × ((s .begun < 65536) × ((o .n < byStation) × ((o .saw .pid < byStation) × (s .idle < 65536)))))
+  may-go errand o made errand-is o-is =
       let q : t .saw .pid ≤ w .n = saved p (w .n) t (facts w (kept .isSound) .station i inside .stands) in
-      (holds, (fits, (kept .rows .within, (kept .rows .waiters, (omega (arith, kept .begun, good .few), (omega (arith, few, kept .same), (omega (arith, q, few), omega (arith, kept .idle, good .few))))))))
+      rw (errand-is, o-is)
+      (kept .fits, (has-places, (omega (arith, kept .begun, good .few), (omega (arith, few, kept .same), (omega (arith, q, few), omega (arith, kept .idle, good .few))))))
 
   -- and of one that ended it
-  pub may-end : Holds e next head latest own × (Fits point list (s .listed) (k + 1) × (CallsWithin latest × ((s .begun < 65536) × ((s .ended < 65536) × (length told ≡ 1025)))))
-  may-end = (holds, (fits, (kept .rows .within, (omega (arith, kept .begun, good .few), (omega (arith, kept .ended, good .few), kept .rows .tolds)))))
+  pub may-end : (errand : Errand) → errand ≡ e → Fits row s × (HasPlaces errand × ((s .begun < 65536) × (s .ended < 65536)))
+  may-end errand errand-is = rw errand-is (kept .fits, (has-places, (omega (arith, kept .begun, good .few), omega (arith, kept .ended, good .few))))
 
   -- a station at rest with no call left leaves all as it was, but for a turn and an idle turn more
-  idle-kept : atRest p ≡ true → d ≡ 0 → Kept n start table turns next w head latest wait own told point list (oneIdle s) (k + 1)
+  idle-kept : atRest p ≡ true → d ≡ 0 → Kept n start table turns w row (oneIdle s) (k + 1)
   unfolding noted
   idle-kept rests none =
       let step : stepRun table (state w k b) i ≡ state w (k + 1) (idles b) =
       ap (λ z. state (z .bench) (k + 1) (noted table w (k + 1) i (callFor p d l) (stationAt (z .bench) i .own) (z .answer) b))
       (idle-turn w table i d (kept .isSound) low high rests none) in
-      let r = kept .rows in
+      let f = kept .fits in
+      let m = kept .notes in
       record {
         count = omega arith;
         isSound = kept .isSound;
         same = kept .same;
-        rows = record {
-          nexts = r .nexts;
-          heads = r .heads;
-          latests = r .latests;
-          owns = r .owns;
-          tolds = r .tolds;
-          stations = r .stations;
-          fits = r .fits;
-          within = r .within;
-          mine = r .mine;
-          waiters = r .waiters;
-          waiting = r .waiting;
-        };
+        fits = record { places = f .places; all = f .all; within = f .within };
+        notes = record { stations = m .stations; mine = m .mine; after = m .after; waiting = m .waiting };
         idle = omega (arith, kept .idle);
         begun = omega (arith, kept .begun);
         ended = omega (arith, kept .ended);
@@ -185,7 +168,7 @@ module _ (n : ℕ) (start : Run) (table turns next : List ℕ) (w : Bench) (head
       }
 
   pub after-idle : (errand : Errand) (test : Bool) (r : Tally) → errand ≡ e → test ≡ (errand .rests && eqb (errand .call) 0) → test ≡ true → r ≡ oneIdle s
-      → Kept n start table turns next w head latest wait own told point list r (k + 1)
+      → Kept n start table turns w row r (k + 1)
   after-idle errand test r errand-is tested taken idled =
       let both : (atRest p && eqb (callFor p d l) 0) ≡ true = ap (λ x. x .rests && eqb (x .call) 0) (sym errand-is) ∙ sym tested ∙ taken in
       let rests = and-left (atRest p) (eqb (callFor p d l) 0) both in
@@ -209,49 +192,46 @@ module _ (n : ℕ) (start : Run) (table turns next : List ℕ) (w : Bench) (head
     begins : (m .answer ≡ Idle → ⊥) → atRest p ≡ true → 0 < d
     begins h e = acting w table i d (kept .isSound) low high e (λ q. h (ap (λ x. x .answer) turned ∙ q))
 
-    pub noted-end : (result took : ℕ) → m .answer ≡ Ended result took
-        → finishes (errandOf p (k + 1) i d l) (record { result = result; own = took }) next b ≡ noted table w (k + 1) i (callFor p d l) (ht .own) (m .answer) b
-    noted-end result took e =
-        ended-noted w table next wait i d l (k + 1) after (kept .rows .mine i inside) result took (ht .own) b
-        (begins (λ q. let z : _≡_ {A = ℕ} 2 0 = ap (λ x. Answers.told x .case) (sym e ∙ q) in omega arith))
-        ∙ ap (λ x. noted table w (k + 1) i (callFor p d l) (ht .own) x b) (sym e)
+    noted-end : (result took : ℕ) → m .answer ≡ Ended result took → (z : Book)
+        → finishes (errandOf p (k + 1) i d l) (record { result = result; own = took }) (partOf row 8) z ≡ noted table w (k + 1) i (callFor p d l) (ht .own) (m .answer) z
+    noted-end result took e z =
+        ended-noted w table (partOf row 8) (partOf row 6) i d l (k + 1) (kept .notes .after) (kept .notes .mine i inside) result took (ht .own) z
+        (begins (λ q. let n : _≡_ {A = ℕ} 2 0 = ap (λ x. Answers.told x .case) (sym e ∙ q) in omega arith))
+        ∙ ap (λ x. noted table w (k + 1) i (callFor p d l) (ht .own) x z) (sym e)
 
-    noted-by : (x : Answer) → OneOf (0 ∷ 1 ∷ 3 ∷ []) (tagOf the-type x) → m .answer ≡ x
-        → passes x (errandOf p (k + 1) i d l) (leftOf t (w .v) (ht .own) (w .n)) next wait b ≡ noted table w (k + 1) i (callFor p d l) (ht .own) x b
-    unfolding passes noted
-    noted-by Idle f e = refl
-    noted-by Going f e =
-        going-noted w table next wait i d l (k + 1) after (kept .rows .mine i inside) (kept .rows .waiting) few (ht .own) b
-        (begins (λ q. let z : _≡_ {A = ℕ} 1 0 = ap (λ x. Answers.told x .case) (sym e ∙ q) in omega arith))
-    noted-by (Ended result took) f e = absurd (⊎-elim (λ q. omega arith) (λ g. ⊎-elim (λ q. omega arith) (λ q. omega arith) g) f)
-    noted-by (Refused number) f e = refl
-
-    pub noted-went : OneOf (0 ∷ 1 ∷ 3 ∷ []) (tagOf the-type (m .answer))
-        → passes (m .answer) (errandOf p (k + 1) i d l) (leftOf t (w .v) (ht .own) (w .n)) next wait b ≡ noted table w (k + 1) i (callFor p d l) (ht .own) (m .answer) b
-    noted-went f = noted-by (m .answer) f refl
+    noted-by : (x : Answer) → OneOf (0 ∷ 1 ∷ 3 ∷ []) (tagOf the-type x) → m .answer ≡ x → (z : Book)
+        → unended x (errandOf p (k + 1) i d l) (operationOf t (w .v) (ht .own) (w .n)) (partOf row 8) (partOf row 6) z ≡ noted table w (k + 1) i (callFor p d l) (ht .own) x z
+    unfolding unended noted
+    noted-by Idle f e z = refl
+    noted-by Going f e z =
+        going-noted w table (partOf row 8) (partOf row 6) i d l (k + 1) (kept .notes .after) (kept .notes .mine i inside) (kept .notes .waiting) few (ht .own) z
+        (begins (λ q. let n : _≡_ {A = ℕ} 1 0 = ap (λ x. Answers.told x .case) (sym e ∙ q) in omega arith))
+    noted-by (Ended result took) f e z = absurd (⊎-elim (λ q. omega arith) (λ g. ⊎-elim (λ q. omega arith) (λ q. omega arith) g) f)
+    noted-by (Refused number) f e z = refl
 
     -- the step of the run
     stepped : (b′ : Book) → b′ ≡ noted table w (k + 1) i (callFor p d l) (ht .own) (m .answer) b → state w′ (k + 1) b′ ≡ stepRun table (state w k b) i
     stepped b′ e =
-        let own-is : ht .own ≡ stationAt w′ i .own = ap (λ z. z .own) (sym (getD-set-same (w .stations) i ht (resting 0) (omega (arith, inside, kept .rows .stations)))) in
+        let own-is : ht .own ≡ stationAt w′ i .own = ap (λ z. z .own) (sym (getD-set-same (w .stations) i ht (resting 0) (omega (arith, inside, kept .notes .stations)))) in
         ap (state w′ (k + 1)) (e ∙ ap (λ u. noted table w (k + 1) i (callFor p d l) u (m .answer) b) own-is)
         ∙ ap (λ z. state (z .bench) (k + 1) (noted table w (k + 1) i (callFor p d l) (stationAt (z .bench) i .own) (z .answer) b)) turned
 
     -- the invariant holds after one more turn
-    pub kept-next : (head′ latest′ own′ told′ point′ list′ : List ℕ) (s′ : Tally)
-        → bookOf head′ latest′ own′ told′ point′ list′ s′ ≡ noted table w (k + 1) i (callFor p d l) (ht .own) (m .answer) b
-        → Fits point′ list′ (s′ .listed) (k + 1) → Kept n start table turns next w′ head′ latest′ (set wait i (waits ht)) own′ told′ point′ list′ s′ (k + 1)
-    kept-next head′ latest′ own′ told′ point′ list′ s′ e f =
-        let c = counts-after w w′ table next head latest wait own told point list head′ latest′ own′ told′ point′ list′ s s′ (k + 1) i (callFor p d l) (ht .own) (m .answer) ht (kept .rows) e f refl inside call-small in
+    kept-next : (row′ : List ℕ) (s′ : Tally) → Becomes row s (noted table w (k + 1) i (callFor p d l) (ht .own) (m .answer)) row′ s′
+        → Kept n start table turns w′ (set row′ (5158 + i) (waits ht)) s′ (k + 1)
+    kept-next row′ s′ a =
+        let c = counts-after w w′ table row row′ s s′ (k + 1) i (callFor p d l) (ht .own) (m .answer) ht (kept .fits) (kept .notes) a refl inside in
+        let e = ap (λ z. z .book) (notes-are w w′ table row row′ s s′ (k + 1) i (callFor p d l) (ht .own) (m .answer) ht (kept .fits) (kept .notes) a refl inside) in
         record {
           count = omega arith;
           isSound = ap (λ z. sound (z .bench)) turned ∙ turn-sound w (offering table i (onOffer p d)) (kept .isSound);
           same = kept .same;
-          rows = rows-after w w′ table next head latest wait own told point list head′ latest′ own′ told′ point′ list′ s s′ (k + 1) i (callFor p d l) (ht .own) (m .answer) ht (kept .rows) e f refl inside call-small;
+          fits = fits-after w w′ table row row′ s s′ (k + 1) i (callFor p d l) (ht .own) (m .answer) ht (kept .fits) (kept .notes) a refl inside;
+          notes = notes-after w w′ table row row′ s s′ (k + 1) i (callFor p d l) (ht .own) (m .answer) ht (kept .fits) (kept .notes) a refl inside;
           idle = omega (arith, c .0, kept .idle);
           begun = omega (arith, c .1, kept .begun);
           ended = omega (arith, c .2, kept .ended);
-          run = ap (λ z. runFrom table z (drop (k + 1) turns)) (stepped (bookOf head′ latest′ own′ told′ point′ list′ s′) e) ∙ ap (λ j. runFrom table (stepRun table (state w k b) j) (drop (k + 1) turns)) is ∙ sym (one-more table turns (state w k b) k more) ∙ kept .run;
+          run = ap (λ z. runFrom table z (drop (k + 1) turns)) (stepped _ e) ∙ ap (λ j. runFrom table (stepRun table (state w k b) j) (drop (k + 1) turns)) is ∙ sym (one-more table turns (state w k b) k more) ∙ kept .run;
         }
 
     -- what the station waits for fits a word
@@ -259,28 +239,26 @@ module _ (n : ℕ) (start : Run) (table turns next : List ℕ) (w : Bench) (head
     s-small =
         let q : sound w′ ≡ true = ap (λ z. sound (z .bench)) turned ∙ turn-sound w (offering table i (onOffer p d)) (kept .isSound) in
         let r = ready-at w′ i q inside in
-        let z : stationAt w′ i ≡ ht = getD-set-same (w .stations) i ht (resting 0) (omega (arith, inside, kept .rows .stations)) in
+        let z : stationAt w′ i ≡ ht = getD-set-same (w .stations) i ht (resting 0) (omega (arith, inside, kept .notes .stations)) in
         rw z at (r .1 .1 .0)
 
     -- a turn that did not end its call, by what the book then holds
-    pub after-going : (errand : Errand) (went : Went) (r : Tally) (waiting : ℕ) (head′ latest′ own′ point′ list′ : List ℕ)
-        → OneOf (0 ∷ 1 ∷ 3 ∷ []) (tagOf the-type (m .answer)) → errand ≡ e → went ≡ leftOf t (w .v) (ht .own) n → waiting ≡ waits ht
-        → Passed (m .answer) errand went s r next head latest wait own point list head′ latest′ own′ point′ list′ → Fits point′ list′ (r .listed) (errand .turn)
-        → Kept n start table turns next w′ head′ latest′ (set wait i waiting) own′ told point′ list′ r (k + 1)
-    unfolding Passed
-    after-going errand went r waiting head′ latest′ own′ point′ list′ f errand-is left-is waits-is passed fit =
+    pub after-going : (errand : Errand) (o : Operation) (r : Tally) (waiting : ℕ) (row′ : List ℕ) → OneOf (0 ∷ 1 ∷ 3 ∷ []) (tagOf the-type (m .answer)) → errand ≡ e
+        → o ≡ operationOf t (w .v) (ht .own) n → waiting ≡ waits ht → Becomes row s (unended (m .answer) errand o (partOf row 8) (partOf row 6)) row′ r
+        → Kept n start table turns w′ (set row′ (5158 + i) waiting) r (k + 1)
+    after-going errand o r waiting row′ f errand-is o-is waits-is a =
         rw waits-is
-        (kept-next head′ latest′ own′ told point′ list′ r
-        (passed told ∙ ap (λ x. passes (m .answer) x went next wait b) errand-is
-        ∙ ap (λ x. passes (m .answer) e x next wait b) (left-is ∙ ap (leftOf t (w .v) (ht .own)) (sym (kept .same))) ∙ noted-went f)
-        (rw errand-is at fit))
+        (kept-next row′ r
+        (same-change
+        (λ z.
+        ap (λ x. unended (m .answer) x o (partOf row 8) (partOf row 6) z) errand-is
+        ∙ ap (λ x. unended (m .answer) e x (partOf row 8) (partOf row 6) z) (o-is ∙ ap (operationOf t (w .v) (ht .own)) (sym (kept .same))) ∙ noted-by (m .answer) f refl z) a))
 
     -- and one that ended it
-    pub after-end : (errand : Errand) (result took waiting : ℕ) (r : Tally) (head′ latest′ own′ told′ point′ list′ : List ℕ)
-        → m .answer ≡ Ended result took → errand ≡ e → waiting ≡ waits ht
-        → bookOf head′ latest′ own′ told′ point′ list′ r ≡ finishes errand (record { result = result; own = took }) next b → Fits point′ list′ (r .listed) (errand .turn)
-        → Kept n start table turns next w′ head′ latest′ (set wait i waiting) own′ told′ point′ list′ r (k + 1)
-    after-end errand result took waiting r head′ latest′ own′ told′ point′ list′ x-is errand-is waits-is finished fit =
+    pub after-end : (errand : Errand) (result took waiting : ℕ) (r : Tally) (row′ : List ℕ) → m .answer ≡ Ended result took → errand ≡ e → waiting ≡ waits ht
+        → Becomes row s (finishes errand (record { result = result; own = took }) (partOf row 8)) row′ r
+        → Kept n start table turns w′ (set row′ (5158 + i) waiting) r (k + 1)
+    after-end errand result took waiting r row′ x-is errand-is waits-is a =
         rw waits-is
-        (kept-next head′ latest′ own′ told′ point′ list′ r
-        (finished ∙ ap (λ x. finishes x (record { result = result; own = took }) next b) errand-is ∙ noted-end result took x-is) (rw errand-is at fit))
+        (kept-next row′ r
+        (same-change (λ z. ap (λ x. finishes x (record { result = result; own = took }) (partOf row 8) z) errand-is ∙ noted-end result took x-is z) a))

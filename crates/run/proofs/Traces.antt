@@ -1,23 +1,24 @@
 -- The trace that is handed out, from what the run left or from a refusal. Assumes nothing.
 use mathlib.Core.Path.{_≡_, refl, _∙_, sym, ap}
-use mathlib.Core.Bool.{Bool, true, false, not, _&&_, _||_}
 use mathlib.Core.List.{List, _++_}
-use Prim.Native.Nat.{ℕ, _-_}
+use Prim.Native.Nat.{ℕ, _+_, _-_, _<_, _≤_}
 use native.Mathlib.Omega.{arith}
-use borrow.Author.Tests.{eq-eqb, ne-eqb, eqb-true}
-use lib.Dec.{eqb}
-use lib.ListN.{length, replicate}
-use lib.Seq.{length-take-le}
-use Rattle.rules.proofs.Facts.{and-left, and-right}
+use borrow.Author.Tests.{eq-eqb, ne-eqb, lt-ltb, le-ltb}
+use lib.ListN.{length, take, drop, replicate}
+use lib.Seq.{length-take-le, take-take, take-add}
 use Rattle.runfile.specs.declared.ReadAnswer.{ReadAnswer}
 use Rattle.runfile.specs.Reading.{readOf, turnsOf}
 use Rattle.runfile.proofs.Answers.{inside}
 use Rattle.runfile.proofs.Trailers.{length-part}
+use Rattle.run.specs.declared.Tally.{Tally}
 use Rattle.run.specs.declared.Trace.{Trace}
 use Rattle.run.specs.declared.Drove.{Drove}
-use Rattle.run.specs.Drive.{runOfFile, Blank}
-use Rattle.run.specs.Trace.{places, cleared, padded, fit, noTrace, traceBy, traceOf, TracedTo}
-use Rattle.run.proofs.Start.{Ran}
+use Rattle.run.specs.Row.{sizeOf, startOf, rowPlaces, zeroRow, partOf, bookIn, Fits}
+use Rattle.run.specs.Drive.{runOfFile}
+use Rattle.run.specs.Trace.{cleared, rowOf, noTrace, traceBy, traceOf, TracedTo, RanTo}
+use Rattle.run.proofs.Written.{long}
+use Rattle.run.proofs.Points.{few-listed}
+use Rattle.run.proofs.Loop.{state}
 
 -- the numbers that a run of so many calls and turns leaves
 abbrev pub drawn : Drove → ℕ → ℕ → Trace
@@ -35,127 +36,79 @@ drawn d calls turns =
       seq = d .bench .v .first;
     }
 
-module _ (file own told point list : List ℕ) (d : Drove) (ran : Ran file d own told point list) (long : length list ≡ places) where
-  listed : d .tally .listed ≡ length (runOfFile file .book .list)
-  listed = sym (ap length (sym (ran .lists)) ∙ length-take-le (d .tally .listed) list (omega (arith, ran .room)))
+-- a row that is cleared after its list is its book's
+module _ (row : List ℕ) (s : Tally) (f : Fits row s) where
+  pub how-many-listed : length (bookIn row s .list) ≡ s .listed
+  unfolding sizeOf
+  how-many-listed = length-take-le (s .listed) (partOf row 4) (omega (arith, few-listed f, long row 4 (f .places) (omega arith)))
 
+  in-front : take 4100 row ≡ partOf row 0 ++ partOf row 1 ++ partOf row 2 ++ partOf row 3
+  unfolding startOf sizeOf partOf
+  in-front =
+      take-add 3075 1025 row
+      ∙ ap (λ l. l ++ take 1025 (drop 3075 row)) (take-add 2050 1025 row ∙ ap (λ l. l ++ take 1025 (drop 2050 row)) (take-add 1025 1025 row))
+
+  in-list : take (s .listed) (drop 4100 row) ≡ take (s .listed) (partOf row 4)
+  unfolding startOf sizeOf partOf
+  in-list = sym (take-take (s .listed) 1025 (drop 4100 row) (few-listed f))
+
+  pub as-row : cleared row (4100 + s .listed) ≡ rowOf (bookIn row s)
+  unfolding rowOf startOf sizeOf
+  as-row =
+      rw (f .places, how-many-listed)
+      (ap (λ l. l ++ replicate (6249 - (4100 + s .listed)) 0) (take-add 4100 (s .listed) row ∙ ap (λ l. l ++ take (s .listed) (drop 4100 row)) in-front
+      ∙ ap (λ l. partOf row 0 ++ partOf row 1 ++ partOf row 2 ++ partOf row 3 ++ l) in-list))
+
+module _ (file row : List ℕ) (d : Drove) (f : Fits row (d .tally)) (ran : state (d .bench) (length (turnsOf file)) (bookIn row (d .tally)) ≡ runOfFile file) where
   numbers : (calls turns : ℕ) → calls ≡ readOf file .q → turns ≡ length (turnsOf file) → drawn d calls turns ≡ traceBy (readOf file .q) (runOfFile file)
   numbers calls turns h e =
+      let listed : d .tally .listed ≡ length (runOfFile file .book .list) = sym (how-many-listed row (d .tally) f) ∙ ap (λ r. length (r .book .list)) ran in
       λ i. record {
         refused = 0;
         k = 0;
         calls = h i;
-        turns = (e ∙ ran .turns) i;
-        idle = ran .idle i;
-        begun = ran .begun i;
-        ended = ran .ended i;
+        turns = (e ∙ ap (λ r. r .turns) ran) i;
+        idle = ran i .book .idle;
+        begun = ran i .book .begun;
+        ended = ran i .book .ended;
         listed = listed i;
-        val = ran .bench i .v .second;
-        seq = ran .bench i .v .first;
+        val = ran i .bench .v .second;
+        seq = ran i .bench .v .first;
       }
 
-  in-row : cleared list (d .tally .listed) ≡ padded (runOfFile file .book .list)
-  in-row = rw (long, ran .lists) (ap (λ k. runOfFile file .book .list ++ replicate (places - k) 0) listed)
-
-  -- from rows that fit
-  pub whole : (own₀ told₀ point₀ list₀ list′ : List ℕ) (calls turns : ℕ) → readOf file .refused ≡ 0 → fit own₀ told₀ point₀ list₀ ≡ true
-      → calls ≡ readOf file .q → turns ≡ length (turnsOf file) → list′ ≡ cleared list (d .tally .listed)
-      → TracedTo file own₀ told₀ point₀ list₀ (drawn d calls turns) own told point list′
-  unfolding traceOf
-  whole own₀ told₀ point₀ list₀ list′ calls turns well fits h e left =
-      record {
-        answered = rw (eq-eqb (readOf file .refused) 0 well, fits) (numbers calls turns h e);
-        owns = ran .owns;
-        tolds = ran .tolds;
-        points = ran .points;
-        lists = left ∙ in-row;
-      }
+  pub whole : (row′ : List ℕ) (calls turns : ℕ) → calls ≡ readOf file .q → turns ≡ length (turnsOf file) → row′ ≡ cleared row (4100 + d .tally .listed)
+      → RanTo file (drawn d calls turns) row′
+  whole row′ calls turns h e left = record {
+    answered = numbers calls turns h e;
+    left = left ∙ as-row row (d .tally) f ∙ ap (λ r. rowOf (r .book)) ran;
+  }
 
 -- the number of turns that was read
 pub turns-counted : (file : List ℕ) (a : ReadAnswer) → a ≡ readOf file → a .t ≡ length (turnsOf file)
 turns-counted file a e = ap (λ r. r .t) e ∙ sym (length-part file (readOf file .middle) (readOf file .t) (inside file .turns))
 
--- zero rows fit
-pub blank-fits : {next head latest wait own told point list : List ℕ} → Blank next head latest wait own told point list → fit own told point list ≡ true
-blank-fits b = rw (b .owns, b .tolds, b .points, b .lists) refl
+-- the front of a row, cleared
+pub front-cleared : (row front : List ℕ) → rowPlaces ≤ length row → front ≡ cleared (take rowPlaces row) 0 → front ≡ zeroRow
+unfolding zeroRow
+front-cleared row front h e = e ∙ ap (λ k. replicate (k - 0) 0) (length-take-le rowPlaces row h)
 
--- the test of the four lengths, as the code has it
-misfit : (a b c d t : Bool) → (((not a || not b) || not c) || not d) ≡ t → (a && (b && (c && d))) ≡ not t
-misfit true true true true t h = ap not h
-misfit true true true false t h = ap not h
-misfit true true false d t h = ap not h
-misfit true false c d t h = ap not h
-misfit false b c d t h = ap not h
-
-module _ (own told point list : List ℕ) where
-  pub tested : (t : Bool)
-      → (((not (eqb (length own) places) || not (eqb (length told) places)) || not (eqb (length point) places)) || not (eqb (length list) places)) ≡ t
-      → fit own told point list ≡ not t
-  tested = misfit (eqb (length own) places) (eqb (length told) places) (eqb (length point) places) (eqb (length list) places)
-
-  -- rows that fit, one by one
-  pub record Long : Type 0 where
-    pub owns : length own ≡ places
-    pub tolds : length told ≡ places
-    pub points : length point ≡ places
-    pub lists : length list ≡ places
-
-  pub long-each : fit own told point list ≡ true → Long
-  long-each h =
-      let h1 = and-right (eqb (length own) places) _ h in
-      let h2 = and-right (eqb (length told) places) _ h1 in
-      record {
-        owns = eqb-true _ _ (and-left _ _ h);
-        tolds = eqb-true _ _ (and-left _ _ h1);
-        points = eqb-true _ _ (and-left _ _ h2);
-        lists = eqb-true _ _ (and-right (eqb (length point) places) _ h2);
-      }
-
-module _ (file own told point list : List ℕ) where
+module _ (file row : List ℕ) where
   -- the file's refusal
-  pub refused : (r : ReadAnswer) (t : Trace) → r ≡ readOf file → (r .refused ≡ 0 → ⊥) → t ≡ noTrace (r .refused) (r .k)
-      → TracedTo file own told point list t own told point list
+  pub refused : (r : ReadAnswer) (t : Trace) → r ≡ readOf file → (r .refused ≡ 0 → ⊥) → t ≡ noTrace (r .refused) (r .k) → TracedTo file row t row
   unfolding traceOf
   refused r t e h same =
       let b = ne-eqb (r .refused) 0 h in
-      rw same
-      (record {
-        answered = simp (sym e, b);
-        owns = simp b;
-        tolds = simp b;
-        points = simp b;
-        lists = simp b;
-      })
+      rw same (record { answered = simp (sym e, b); left = simp b })
 
   -- 14
-  pub unfit : (t : Trace) → readOf file .refused ≡ 0 → fit own told point list ≡ false → t ≡ noTrace 14 0 → TracedTo file own told point list t own told point list
+  pub too-short : (t : Trace) → readOf file .refused ≡ 0 → length row < rowPlaces → t ≡ noTrace 14 0 → TracedTo file row t row
   unfolding traceOf
-  unfit t well f same =
-      rw same
-      (record {
-        answered = rw (eq-eqb (readOf file .refused) 0 well, f);
-        owns = refl;
-        tolds = refl;
-        points = refl;
-        lists = refl;
-      })
+  too-short t well short same =
+      rw same (record { answered = rw (eq-eqb (readOf file .refused) 0 well, lt-ltb (length row) rowPlaces short); left = refl })
 
--- a row of the length that is asked for, cleared
-pub zeros : (row row′ : List ℕ) → length row ≡ places → row′ ≡ cleared row 0 → row′ ≡ replicate places 0
-zeros row row′ h e = e ∙ ap (λ k. replicate (k - 0) 0) h
-
--- what is said of rows that fit is said of the rows as they were lent
-pub lent : (file own told point list own₀ told₀ point₀ list₀ own′ told′ point′ list′ : List ℕ) (t : Trace) → fit own told point list ≡ true
-    → fit own₀ told₀ point₀ list₀ ≡ true → TracedTo file own told point list t own′ told′ point′ list′ → readOf file .refused ≡ 0
-    → TracedTo file own₀ told₀ point₀ list₀ t own′ told′ point′ list′
-unfolding traceOf
-lent file own told point list own₀ told₀ point₀ list₀ own′ told′ point′ list′ t f g h well =
-    let e : t .refused ≡ 0 = ap (λ t. t .refused) (h .answered) ∙ rw (eq-eqb (readOf file .refused) 0 well, f) refl in
-    let b = eq-eqb (t .refused) 0 e in
-    record {
-      answered = h .answered ∙ rw (f, g) refl;
-      owns = h .owns ∙ rw b refl;
-      tolds = h .tolds ∙ rw b refl;
-      points = h .points ∙ rw b refl;
-      lists = h .lists ∙ rw b refl;
-    }
+  -- a row that is long enough, of which the run was given the front
+  pub long-enough : (t : Trace) (front : List ℕ) → readOf file .refused ≡ 0 → rowPlaces ≤ length row → RanTo file t front → TracedTo file row t (front ++ drop rowPlaces row)
+  unfolding traceOf
+  long-enough t front well room ran =
+      rw (ran .answered, ran .left)
+      (record { answered = rw (eq-eqb (readOf file .refused) 0 well, le-ltb (length row) rowPlaces room); left = refl })

@@ -9,7 +9,8 @@ use Rattle.card.specs.declared.Halves.{Halves}
 use Rattle.method.specs.declared.Station.{Station}
 use Rattle.method.specs.Effect.{raises}
 use Rattle.run.specs.declared.Errand.{Errand}
-use Rattle.run.specs.declared.Went.{Went}
+use Rattle.run.specs.declared.Operation.{Operation}
+use Rattle.run.specs.Row.{byStation}
 use lib.ListN.{getD}
 use Rattle.method.specs.declared.Place.{Place}
 use Rattle.method.specs.declared.Call.{Call}
@@ -48,14 +49,14 @@ errandOf p turn i upcoming latest = record { turn = turn; station = i; call = ca
 abbrev pub waits : Station → ℕ
 waits t = cond (ltb (num (t .place)) 11) 0 (t .s + 2)
 
-abbrev pub leftOf : Station → Halves → ℕ → ℕ → Went
-leftOf t v own n = record { own = own; raises = raises (t .place) v t; saw = t .saw; n = n }
+abbrev pub operationOf : Station → Halves → ℕ → ℕ → Operation
+operationOf t v own n = record { own = own; raises = raises (t .place) v t; saw = t .saw; n = n }
 
--- every call's station is one of 0 to 32
+-- every call's station has its place
 abbrev pub StationsWithin : List ℕ → Type 0
-StationsWithin table = (c : ℕ) → callOf table c .station < 33
+StationsWithin table = (c : ℕ) → callOf table c .station < byStation
 
 -- from the table's end down to call c: each station's first call after c, and the next one of each call after c
 pub record Linked (table next head : List ℕ) (c : ℕ) : Type 0 where
-  pub first : (i : ℕ) → i < 33 → getD head i 0 ≡ callAfter table i c
+  pub first : (i : ℕ) → i < byStation → getD head i 0 ≡ callAfter table i c
   pub after : (d : ℕ) → c < d → d ≤ records table → getD next d 0 ≡ callAfter table (callOf table d .station) d

@@ -1,6 +1,6 @@
 pub mod Calls
-pub mod Rows
 pub mod Book
+pub mod Row
 pub mod Run
 pub mod Drive
 pub mod Trace

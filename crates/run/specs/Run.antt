@@ -11,7 +11,8 @@ use Rattle.bench.specs.Turn.{freshOf}
 use Rattle.bench.specs.Points.{pointsIn}
 use Rattle.bench.specs.Promise.{Turn, turnBy}
 use Rattle.run.specs.Calls.{callAfter, offering, onOffer, callFor}
-use Rattle.run.specs.Book.{Book, acts, allEnter, ends, idles}
+use Rattle.run.specs.Row.{byCall, byStation}
+use Rattle.run.specs.Book.{Book, acts, allEnter, callEnds, idles}
 
 pub record Run : Type 0 where
   pub bench : Bench
@@ -26,11 +27,12 @@ firstCalls table (suc k) = firstCalls table k ++ (callAfter table k 0 ∷ [])
 abbrev pub emptyBook : List ℕ → Book
 emptyBook table =
     record {
-      upcoming = firstCalls table 33;
-      latest = replicate 33 0;
-      own = replicate 1025 0;
-      told = replicate 1025 0;
-      point = replicate 1025 0;
+      upcoming = firstCalls table byStation;
+      latest = replicate byStation 0;
+      own = replicate byCall 0;
+      result = replicate byCall 0;
+      last = replicate byCall 0;
+      point = replicate byCall 0;
       list = [];
       idle = 0;
       begun = 0;
@@ -43,7 +45,7 @@ noted table w turn i c own Idle b = idles b
 noted table w turn i c own Going b =
     allEnter turn (pointsIn w i Going) (acts (atRest (stationAt w i .place)) i c (callAfter table i c) own b)
 noted table w turn i c own (Ended result took) b =
-    ends c result (allEnter turn (pointsIn w i (Ended result took)) (acts (atRest (stationAt w i .place)) i c (callAfter table i c) took b))
+    callEnds turn c result (allEnter turn (pointsIn w i (Ended result took)) (acts (atRest (stationAt w i .place)) i c (callAfter table i c) took b))
 noted table w turn i c own (Refused number) b = b
 
 -- what a turn of station i is given: the station, and its next call where it is at rest

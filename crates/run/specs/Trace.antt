@@ -1,31 +1,26 @@
--- The trace of a run, as the rooms above have it: the run's numbers, and rows by call that the caller lends. Assumes nothing.
+-- The trace of a run, as the rooms above have it: the run's numbers, and its book in a row that the caller lends. Assumes nothing.
 use mathlib.Core.Path.{_≡_}
-use mathlib.Core.Bool.{Bool, cond, _&&_}
+use mathlib.Core.Bool.{cond}
 use mathlib.Core.List.{List, _++_}
-use Prim.Native.Nat.{ℕ, _-_}
-use lib.Dec.{eqb}
-use lib.ListN.{length, replicate, take}
+use Prim.Native.Nat.{ℕ, _+_, _-_}
+use lib.Dec.{eqb, ltb}
+use lib.ListN.{length, replicate, take, drop}
 use Rattle.runfile.specs.Reading.{readOf}
+use Rattle.run.specs.declared.Tally.{Tally}
 use Rattle.run.specs.declared.Trace.{Trace}
+use Rattle.run.specs.Book.{Book}
+use Rattle.run.specs.Row.{listPart, startOf, rowPlaces, bookIn}
 use Rattle.run.specs.Run.{Run}
 use Rattle.run.specs.Drive.{runOfFile}
-
--- a row has a place for call 0, which is none, and for each call of the largest table
-abbrev pub places : ℕ
-places = 1025
 
 -- a row with zeros from a place on
 abbrev pub cleared : List ℕ → ℕ → List ℕ
 cleared row from = take from row ++ replicate (length row - from) 0
 
--- a list at the front of a row
-abbrev pub padded : List ℕ → List ℕ
-padded list = list ++ replicate (places - length list) 0
-
--- 14: a row that is lent has not the length that is asked for
-abbrev pub fit : List ℕ → List ℕ → List ℕ → List ℕ → Bool
-fit own told point list =
-    eqb (length own) places && (eqb (length told) places && (eqb (length point) places && eqb (length list) places))
+-- a book as a row: own turns, answers, last turns and points by call, the list, and zeros after it, in the loop's own parts too
+unfoldable pub rowOf : Book → List ℕ
+rowOf b =
+    b .own ++ b .result ++ b .last ++ b .point ++ b .list ++ replicate (rowPlaces - (startOf listPart + length (b .list))) 0
 
 -- a refused trace has zero in its other numbers
 abbrev pub noTrace : ℕ → ℕ → Trace
@@ -47,18 +42,29 @@ traceBy calls r =
       seq = r .bench .v .first;
     }
 
--- the file's refusal with its K; then 14
-unfoldable pub traceOf : List ℕ → Bool → Trace
-traceOf file fits = cond (eqb (readOf file .refused) 0) (cond fits (traceBy (readOf file .q) (runOfFile file)) (noTrace 14 0)) (noTrace (readOf file .refused) (readOf file .k))
+-- the file's refusal with its K; then 14: a row of so many places is shorter than the book
+unfoldable pub traceOf : List ℕ → ℕ → Trace
+traceOf file room =
+    cond (eqb (readOf file .refused) 0) (cond (ltb room rowPlaces) (noTrace 14 0) (traceBy (readOf file .q) (runOfFile file)))
+    (noTrace (readOf file .refused) (readOf file .k))
 
--- a row that is lent becomes the run's; a refusal leaves it as it was
-abbrev pub lentRow : Trace → List ℕ → List ℕ → List ℕ
-lentRow r row before = cond (eqb (r .refused) 0) row before
+-- the front of a row that is lent becomes the run's book; a refusal leaves the row as it was
+abbrev pub tracedOn : Trace → Book → List ℕ → List ℕ
+tracedOn r b row = cond (eqb (r .refused) 0) (rowOf b ++ drop rowPlaces row) row
 
--- own turns, answers, points and the list of the run are left in the rows
-pub record TracedTo (file own told point list : List ℕ) (r : Trace) (own′ told′ point′ list′ : List ℕ) : Type 0 where
-  pub answered : r ≡ traceOf file (fit own told point list)
-  pub owns : own′ ≡ lentRow r (runOfFile file .book .own) own
-  pub tolds : told′ ≡ lentRow r (runOfFile file .book .told) told
-  pub points : point′ ≡ lentRow r (runOfFile file .book .point) point
-  pub lists : list′ ≡ lentRow r (padded (runOfFile file .book .list)) list
+-- the run's numbers, and its book in the row
+pub record TracedTo (file row : List ℕ) (r : Trace) (row′ : List ℕ) : Type 0 where
+  pub answered : r ≡ traceOf file (length row)
+  pub left : row′ ≡ tracedOn r (runOfFile file .book) row
+
+-- the same of a file that reads well and a row that is just long enough
+pub record RanTo (file : List ℕ) (r : Trace) (row′ : List ℕ) : Type 0 where
+  pub answered : r ≡ traceBy (readOf file .q) (runOfFile file)
+  pub left : row′ ≡ rowOf (runOfFile file .book)
+
+-- the counts of a trace, and the book that it tells with its row
+abbrev pub tallyOf : Trace → Tally
+tallyOf t = record { idle = t .idle; begun = t .begun; ended = t .ended; listed = t .listed }
+
+abbrev pub bookOf : Trace → List ℕ → Book
+bookOf t row = bookIn row (tallyOf t)

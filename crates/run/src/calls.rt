@@ -3,12 +3,16 @@ ghost use mathlib.Core.Path.{_≡_};
 ghost use mathlib.Core.Bool.{cond, _&&_};
 ghost use Prim.Native.Nat.{_<_, _≤_};
 ghost use lib.Dec.{eqb};
-ghost use lib.ListN.{replicate};
 ghost use Rattle.method.specs.declared.Call.{Call};
+ghost use Rattle.rules.specs.Limits.{callLimit};
 ghost use Rattle.runfile.specs.Layout.{records};
-ghost use Rattle.run.specs.Calls.{offer, errandOf, waits, leftOf, Linked, StationsWithin};
+ghost use Rattle.run.specs.Calls.{offer, errandOf, waits, operationOf, StationsWithin};
+ghost use Rattle.run.specs.Row.{zeroRow};
+ghost use Rattle.run.specs.Drive.{LinkedIn};
 use crate::Errand;
-use crate::Went;
+use crate::Operation;
+use crate::parts::HEAD;
+use crate::parts::NEXT;
 use card::Halves;
 use method::Call;
 use method::Station;
@@ -79,15 +83,15 @@ pub(crate) fn waiting(t: Station) -> u32
     s + 2
 }
 
-// What is left of a turn of n stations that took a station at t to so many own turns, and read V as v.
-pub(crate) fn left(t: Station, v: Halves, own: u32, n: u32) -> Went
-    ensures { λ r. ⌜ r ≡ leftOf t v own n ⌝ }
+// The operation of a station at t that did not end its call, on a bench of n stations: it found V as v, and made so many own turns.
+pub(crate) fn operation(t: Station, v: Halves, own: u32, n: u32) -> Operation
+    ensures { λ r. ⌜ r ≡ operationOf t v own n ⌝ }
 {
     let saw = t.saw;
     let version = v.first;
     let place = t.place;
     let raises = (place.number() == 19) & (version < saw.seq);
-    Went {
+    Operation {
         own,
         raises,
         saw,
@@ -95,17 +99,17 @@ pub(crate) fn left(t: Station, v: Halves, own: u32, n: u32) -> Went
     }
 }
 
-// Leaves in head each station's first call, and in next, for each call, its station's next one.
-pub(crate) fn link(table: &[u8], next: &mut [u32], head: &mut [u32])
-    requires { ⌜ (now next ≡ replicate 1025 0) × ((now head ≡ replicate 33 0) × ((records (now table) ≤ 1024) × StationsWithin (now table))) ⌝ }
-    ensures { λ r. ⌜ Linked (now (table .entry)) (now (next .exit)) (now (head .exit)) 0 ⌝ }
+// Leaves in a zero row each station's first call, and, for each call, its station's next one.
+pub(crate) fn link(table: &[u8], row: &mut [u32])
+    requires { ⌜ (now row ≡ zeroRow) × ((records (now table) ≤ callLimit) × StationsWithin (now table)) ⌝ }
+    ensures { λ r. ⌜ LinkedIn (now (table .entry)) (now (row .exit)) 0 ⌝ }
 {
     let mut c = table.len() / 12;
     while 0 < c {
         let r = runfile::call_at(table, c);
-        let station = r.station as usize;
-        next[c] = head[station];
-        head[station] = c as u32;
+        let at = HEAD + r.station as usize;
+        row[NEXT + c] = row[at];
+        row[at] = c as u32;
         c = c - 1;
     }
 }

@@ -2,19 +2,21 @@
 // It assumes a sound bench, good turns and good calls, and keeps the bench sound, so that no turn tests it.
 // A station's record is read for the idle test and again after it, so that an idle turn loads no more of it than the place.
 ghost use mathlib.Core.Path.{_≡_};
-ghost use Prim.Native.Nat.{_≤_};
-ghost use Rattle.run.specs.Drive.{Ready, Driven};
+ghost use Rattle.run.specs.Drive.{Drivable, Driven};
 use crate::Drove;
 use crate::Finish;
 use crate::Tally;
 use crate::book::finished;
 use crate::book::idled;
-use crate::book::went;
+use crate::book::not_ended;
 use crate::calls::errand;
 use crate::calls::idles;
-use crate::calls::left;
 use crate::calls::offered;
+use crate::calls::operation;
 use crate::calls::waiting;
+use crate::parts::HEAD;
+use crate::parts::LATEST;
+use crate::parts::WAIT;
 use bench::Bench;
 use method::Answer;
 use reach::Reach;
@@ -26,22 +28,9 @@ fn wide(b: u8) -> u32
     b as u32
 }
 
-pub(crate) fn drive(
-    mut w: Bench,
-    table: &[u8],
-    turns: &[u8],
-    next: &[u32],
-    head: &mut [u32],
-    latest: &mut [u32],
-    wait: &mut [u32],
-    own: &mut [u32],
-    told: &mut [u64],
-    point: &mut [u32],
-    list: &mut [u32],
-) -> Drove
-    requires { ⌜ Ready w (now table) (now turns) (now next) (now head) (now latest) (now wait) (now own) (now told) (now point) (now list) ⌝ }
-    ensures { λ r. ⌜ Driven w (now (table .entry)) (now (turns .entry)) (now (head .entry)) (now (latest .entry)) (now (own .entry)) (now (told .entry)) (now (point .entry)) (now (list .entry)) r (now (head .exit)) (now (latest .exit)) (now (own .exit)) (now (told .exit)) (now (point .exit)) (now (list .exit)) ⌝ }
-    ensures { λ r. ⌜ r .tally .listed ≤ 1025 ⌝ }
+pub(crate) fn drive(mut w: Bench, table: &[u8], turns: &[u8], row: &mut [u32]) -> Drove
+    requires { ⌜ Drivable w (now table) (now turns) (now row) ⌝ }
+    ensures { λ r. ⌜ Driven w (now (table .entry)) (now (turns .entry)) (now (row .entry)) r (now (row .exit)) ⌝ }
 {
     let n = w.n;
     let mut s = Tally {
@@ -56,7 +45,7 @@ pub(crate) fn drive(
         let at = i as usize;
         k = k + 1;
         let seen = w.stations[at];
-        let e = errand(seen, k as u32, i, head[at], latest[at]);
+        let e = errand(seen, k as u32, i, row[HEAD + at], row[LATEST + at]);
         if idles(e) {
             s = idled(s);
             continue;
@@ -92,14 +81,14 @@ pub(crate) fn drive(
         let x = m.answer;
         let Answer::Ended { result, own: took } = x else {
             let made = ht.own;
-            let l = left(t, v, made, n);
-            s = went(s, x, e, l, next, head, latest, wait, own, point, list);
-            wait[at] = waits;
+            let o = operation(t, v, made, n);
+            s = not_ended(row, s, x, e, o);
+            row[WAIT + at] = waits;
             continue;
         };
         let f = Finish { result, own: took };
-        s = finished(s, e, f, next, head, latest, own, told, point, list);
-        wait[at] = waits;
+        s = finished(row, s, e, f);
+        row[WAIT + at] = waits;
     }
     Drove { bench: w, tally: s }
 }

@@ -1,16 +1,24 @@
-// A run of a file: calls out of its table are offered to the stations, turn by turn, and a book is kept of what took effect when.
-// Its modules: calls (which call is whose next), book (what is kept by stations and by calls), drive (the loop over the turns),
-// ran (the run of a whole file), rows (zeros), tracing (what the rooms above have of a run).
+// A run of a file: calls out of its table are offered to the stations, turn by turn, and a book is kept of what took effect when, in one row of numbers.
+// Its modules: parts (where the row's parts start), calls (which call is whose next), book (what is kept by stations and by calls), drive (the loop over
+// the turns), ran (the run of a whole file), zeros, tracing (what the rooms above have of a run).
 use bench::Bench;
 use card::Claim;
 
 mod book;
 mod calls;
 mod drive;
+mod parts;
 mod ran;
-mod rows;
 mod tracing;
+mod zeros;
 
+pub use parts::BY_CALL;
+pub use parts::LAST;
+pub use parts::LIST;
+pub use parts::OWN;
+pub use parts::PLACES;
+pub use parts::POINT;
+pub use parts::RESULT;
 pub use tracing::traced;
 
 // The numbers of a run: the calls of its table, its turns, idle turns, calls begun, ended and listed, and V at its end. Refused, all but refused and k
@@ -44,8 +52,8 @@ pub(crate) struct Errand {
     pub rests: bool,
 }
 
-// What is left of a turn that did not end its call: the own turns made, whether V.seq was raised, and to whose claim.
-pub(crate) struct Went {
+// What a turn's operation that did not end its call was: the own turns made, whether V.seq was raised, to whose claim, and of how many stations.
+pub(crate) struct Operation {
     pub own: u32,
     pub raises: bool,
     pub saw: Claim,

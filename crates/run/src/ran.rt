@@ -1,12 +1,14 @@
-// The run of a file that reads well, in lent rows. It assumes that all rows but the list are zero, and that the file was read once, since that takes a look at each turn.
+// The run of a file that reads well, in a row of zeros that is just long enough. It assumes that the file was read once, since that takes a look at each turn.
+// After the list the row is zero again: what the loop kept for itself is no part of the trace.
 ghost use mathlib.Core.Path.{_≡_};
 ghost use Rattle.runfile.specs.Reading.{readOf, tableOf, turnsOf};
-ghost use Rattle.run.specs.Drive.{Blank};
-ghost use Rattle.run.specs.Trace.{TracedTo};
+ghost use Rattle.run.specs.Row.{zeroRow};
+ghost use Rattle.run.specs.Trace.{RanTo};
 use crate::Trace;
 use crate::calls::link;
 use crate::drive::drive;
-use crate::rows::clear;
+use crate::parts::LIST;
+use crate::zeros::clear;
 use bench::Bench;
 use runfile::ReadAnswer;
 
@@ -30,43 +32,20 @@ fn turns_of(file: &[u8], a: ReadAnswer) -> &[u8]
     &file[s..e]
 }
 
-pub(crate) fn ran(
-    file: &[u8],
-    next: &mut [u32],
-    head: &mut [u32],
-    latest: &mut [u32],
-    wait: &mut [u32],
-    own: &mut [u32],
-    told: &mut [u64],
-    point: &mut [u32],
-    list: &mut [u32],
-    a: ReadAnswer,
-) -> Trace
-    requires { ⌜ (readOf (now file) .refused ≡ 0) × (Blank (now next) (now head) (now latest) (now wait) (now own) (now told) (now point) (now list) × (a ≡ readOf (now file))) ⌝ }
-    ensures { λ r. ⌜ TracedTo (now (file .entry)) (now (own .entry)) (now (told .entry)) (now (point .entry)) (now (list .entry)) r (now (own .exit)) (now (told .exit)) (now (point .exit)) (now (list .exit)) ⌝ }
+pub(crate) fn ran(file: &[u8], row: &mut [u32], a: ReadAnswer) -> Trace
+    requires { ⌜ (readOf (now file) .refused ≡ 0) × ((now row ≡ zeroRow) × (a ≡ readOf (now file))) ⌝ }
+    ensures { λ r. ⌜ RanTo (now (file .entry)) r (now (row .exit)) ⌝ }
 {
     let table = table_of(file, a);
     let turns = turns_of(file, a);
     let made = Bench::fresh(a.x, a.n);
     let fresh = made.bench;
-    link(table, next, head);
-    let d = drive(
-        fresh,
-        table,
-        turns,
-        next,
-        head,
-        latest,
-        wait,
-        own,
-        told,
-        point,
-        list,
-    );
+    link(table, row);
+    let d = drive(fresh, table, turns, row);
     let s = d.tally;
     let w = d.bench;
     let v = w.v;
-    clear(list, s.listed as usize);
+    clear(row, LIST + s.listed as usize);
     Trace {
         refused: 0,
         k: 0,

@@ -55,19 +55,19 @@ length-line l s =
     simp length-append (omega (arith, rw length-append at h1, rw length-append at h2, rw length-append at h3, h4, h5, rw length-append at h6, h7))
 
 module _ (calls : ℕ) (table : List ℕ) (r : Run) (small : Small r) (stations : StationsWithin table) where
-  short : (i : ℕ) → i < 1024 → Short (lineOf table (r .book .own) (r .book .told) (r .book .point) (suc i) (getD (r .book .list) i 0))
+  short : (i : ℕ) → i < 1024 → Short (lineOf table (r .book) (suc i) (getD (r .book .list) i 0))
   short i h =
       let c = getD (r .book .list) i 0 in
       record {
         place = omega arith;
         station = omega (arith, stations c);
         call = small .calls i;
-        answer = omega arith;
+        answer = small .result c;
         own = small .own c;
         point = small .point c;
       }
 
-  length-lines : (i : ℕ) → i ≤ 1024 → length (linesText table (r .book .own) (r .book .told) (r .book .point) (r .book .list) i) ≤ 38 * i
+  length-lines : (i : ℕ) → i ≤ 1024 → length (linesText table (r .book) i) ≤ 38 * i
   unfolding linesText
   length-lines zero h = omega arith
   length-lines (suc i) h = simp length-append (omega (arith, length-lines i (omega arith), length-line _ (short i (omega arith))))

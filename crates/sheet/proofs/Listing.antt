@@ -1,25 +1,54 @@
--- Rows that hold the list at their front. Assumes nothing.
+-- The sheet of a run, from the row that its trace left. Assumes nothing.
 use mathlib.Core.Path.{_≡_, refl, _∙_, ap}
-use mathlib.Core.List.{List, [], _∷_, _++_}
-use Prim.Native.Nat.{ℕ, zero, suc, _-_}
-use lib.ListN.{length, getD, replicate}
-use Rattle.run.specs.Trace.{places, padded}
-use Rattle.lines.specs.Lines.{lineText, lineOf, linesText}
+use mathlib.Core.List.{List, _++_}
+use Prim.Native.Nat.{ℕ, zero, suc, _≤_}
+use lib.ListN.{length, getD}
+use Rattle.run.specs.Book.{Book}
+use Rattle.run.specs.Row.{byCall}
+use Rattle.run.specs.Run.{Run}
+use Rattle.run.specs.Trace.{rowOf, traceBy, bookOf}
+use Rattle.run.proofs.Back.{Long, own-back, result-back, last-back, point-back, list-back}
+use Rattle.lines.specs.Lines.{lineText, lineOf, linesText, lastText, sheetText}
 
--- zeros after a list are what is read past its end
-past-end : (k i : ℕ) → _≡_ {A = ℕ} (getD (replicate k 0) i 0) 0
-past-end zero i = refl
-past-end (suc k) zero = refl
-past-end (suc k) (suc i) = past-end k i
+-- the lines tell of a book what it has by call, and its list
+abbrev shown : Book → Book → Book
+shown b other =
+    record {
+      upcoming = other .upcoming;
+      latest = other .latest;
+      own = b .own;
+      result = b .result;
+      last = b .last;
+      point = b .point;
+      list = b .list;
+      idle = other .idle;
+      begun = other .begun;
+      ended = other .ended;
+    }
 
-in-front : (l : List ℕ) (k i : ℕ) → getD (l ++ replicate k 0) i 0 ≡ getD l i 0
-in-front [] k i = past-end k i
-in-front (x ∷ xs) k zero = refl
-in-front (x ∷ xs) k (suc i) = in-front xs k i
-
-pub lines-padded : (table own told point list : List ℕ) (i : ℕ) → linesText table own told point (padded list) i ≡ linesText table own told point list i
+same-lines : (table : List ℕ) (b other : Book) (i : ℕ) → linesText table (shown b other) i ≡ linesText table b i
 unfolding linesText
-lines-padded table own told point list zero = refl
-lines-padded table own told point list (suc i) =
-    ap (λ c. linesText table own told point (padded list) i ++ lineText (lineOf table own told point (suc i) c)) (in-front list (places - length list) i)
-    ∙ ap (λ l. l ++ lineText (lineOf table own told point (suc i) (getD list i 0))) (lines-padded table own told point list i)
+same-lines table b other zero = refl
+same-lines table b other (suc i) = ap (λ l. l ++ lineText (lineOf table b (suc i) (getD (b .list) i 0))) (same-lines table b other i)
+
+pub same-sheet : (calls : ℕ) (table : List ℕ) (r : Run) (rest : List ℕ) → Long (r .book) → length (r .book .list) ≤ byCall
+    → sheetText (traceBy calls r) table (bookOf (traceBy calls r) (rowOf (r .book) ++ rest)) ≡ sheetText (traceBy calls r) table (r .book)
+unfolding sheetText
+same-sheet calls table r rest long few =
+    let t = traceBy calls r in
+    let b = r .book in
+    let other = bookOf t (rowOf b ++ rest) in
+    let e : other ≡ shown b other =
+    λ i. record {
+      upcoming = other .upcoming;
+      latest = other .latest;
+      own = own-back b long few rest i;
+      result = result-back b long few rest i;
+      last = last-back b long few rest i;
+      point = point-back b long few rest i;
+      list = list-back b long few rest i;
+      idle = other .idle;
+      begun = other .begun;
+      ended = other .ended;
+    } in
+    ap (λ z. linesText table z (length (b .list)) ++ lastText t) e ∙ ap (λ l. l ++ lastText t) (same-lines table b other (length (b .list)))

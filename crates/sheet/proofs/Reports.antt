@@ -6,28 +6,25 @@ use Prim.Native.Nat.{ℕ, _≤_}
 use native.Mathlib.Omega.{arith}
 use borrow.Author.Tests.{eq-eqb, eqb-true, leb-true, leb-false, lt-ltb, le-ltb}
 use lib.Dec.{leb, ltb, eqb}
-use lib.ListN.{length}
+use lib.ListN.{length, drop}
 use Rattle.octets.specs.Bytes.{AllBytes}
-use Rattle.rules.proofs.Facts.{either-way, and-both}
+use Rattle.rules.proofs.Facts.{either-way}
 use Rattle.script.specs.Wrote.{Wrote}
 use Rattle.script.proofs.Writes.{size, in-front}
 use Rattle.runfile.specs.Reading.{readOf, tableOf}
 use Rattle.runfile.proofs.Answers.{by-answer}
 use Rattle.run.specs.declared.Trace.{Trace}
 use Rattle.run.specs.Drive.{runOfFile}
-use Rattle.run.specs.Trace.{padded, fit, traceBy, traceOf, lentRow, TracedTo}
+use Rattle.run.specs.Row.{rowPlaces}
+use Rattle.run.specs.Trace.{rowOf, traceBy, traceOf, TracedTo, bookOf}
+use Rattle.run.proofs.Back.{file-long}
 use Rattle.sheet.specs.declared.Reported.{Reported}
 use Rattle.limits.specs.Small.{SmallNumbers}
 use Rattle.limits.proofs.Promised.{small-numbers}
-use Rattle.lines.specs.Lines.{lastText, sheetText}
-use Rattle.sheet.specs.Report.{reportText, reported, reportOf, reportedOn, LaidOn, ReportedTo, AlwaysEnough, AnswersWhole, ReportSettled}
-use Rattle.sheet.proofs.Listing.{lines-padded}
+use Rattle.lines.specs.Lines.{sheetText}
+use Rattle.sheet.specs.Report.{reportText, reported, reportOf, reportedOn, LaidOn, ReportedTo, AlwaysEnough, ReportSettled}
+use Rattle.sheet.proofs.Listing.{same-sheet}
 use Rattle.sheet.proofs.Lengths.{length-report}
-
--- rows of the length that is asked for
-pub rows-fit : (own told point list : List ℕ) → length own ≡ 1025 → length told ≡ 1025 → length point ≡ 1025 → length list ≡ 1025 → fit own told point list ≡ true
-rows-fit own told point list a b c d =
-    and-both (eq-eqb (length own) 1025 a) (and-both (eq-eqb (length told) 1025 b) (and-both (eq-eqb (length point) 1025 c) (eq-eqb (length list) 1025 d)))
 
 -- the call table stands at the front
 pub from-front : (file : List ℕ) → readOf file .start ≡ 0
@@ -51,9 +48,8 @@ has-some text out fits tested all few v =
     let m = size v (omega arith) in
     record { answered = simp (k, m); left = simp k (in-front v l) }
 
-module _ (file out own told point list own′ told′ point′ list′ : List ℕ) (t : Trace) (f : fit own told point list ≡ true)
-    (e : TracedTo file own told point list t own′ told′ point′ list′) where
-  given : t ≡ traceOf file true
+module _ (file out row row′ : List ℕ) (t : Trace) (f : length row ≡ rowPlaces) (e : TracedTo file row t row′) where
+  given : t ≡ traceOf file rowPlaces
   given = e .answered ∙ ap (traceOf file) f
 
   -- the trace is the file's refusal
@@ -82,23 +78,22 @@ module _ (file out own told point list own′ told′ point′ list′ : List �
     pub calls-read : t .calls ≡ readOf file .q
     calls-read = ap (λ (t : Trace). t .calls) numbers
 
-    left-in : (row before : List ℕ) → lentRow t row before ≡ row
-    left-in row before = rw (eq-eqb (t .refused) 0 z) refl
+    left : row′ ≡ rowOf (runOfFile file .book) ++ drop rowPlaces row
+    left = e .left ∙ rw (eq-eqb (t .refused) 0 z) refl
 
     module _ (h : AllBytes file) where
       module _ (table : List ℕ) (g : table ≡ tableOf file) where
-        same-text : sheetText t table own′ told′ point′ list′ ≡ reportText file
-        unfolding reportText sheetText
+        same-text : sheetText t table (bookOf t row′) ≡ reportText file
+        unfolding reportText SmallNumbers
         same-text =
-            let book = runOfFile file .book in
-            rw (numbers, g, e .owns, e .tolds, e .points, e .lists, left-in (book .own) own, left-in (book .told) told, left-in (book .point) point, left-in (padded (book .list)) list)
-            (ap (λ l. l ++ lastText (traceBy (readOf file .q) (runOfFile file))) (lines-padded (tableOf file) (book .own) (book .told) (book .point) (book .list) (length (book .list))))
+            let few = small-numbers file h well .listed in
+            rw (numbers, g, left) (same-sheet (readOf file .q) (tableOf file) (runOfFile file) (drop rowPlaces row) (file-long file) (omega arith))
 
-        pub at-most : length (sheetText t table own′ told′ point′ list′) ≤ 40960
+        pub at-most : length (sheetText t table (bookOf t row′)) ≤ 40960
         at-most = rw same-text (length-report file h well)
 
         -- the sheet in the buffer is the file's report
-        pub the-report : {r : Reported} {after : List ℕ} → LaidOn (sheetText t table own′ told′ point′ list′) out r after → ReportedTo file out r after
+        pub the-report : {r : Reported} {after : List ℕ} → LaidOn (sheetText t table (bookOf t row′)) out r after → ReportedTo file out r after
         unfolding reportOf reportedOn
         the-report v =
             let b = eq-eqb (readOf file .refused) 0 well in
@@ -117,12 +112,6 @@ always-enough file room h enough =
     let k = le-ltb room (length (reportText file)) (omega arith) in
     simp (b, k) (sym z))
     (λ b. rw b)
-
-pub answers-whole : AnswersWhole
-unfolding AnswersWhole SmallNumbers
-answers-whole file h well c =
-    let few = small-numbers file h well .told c in
-    omega arith
 
 pub settled : ReportSettled
 unfolding ReportSettled

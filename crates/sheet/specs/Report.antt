@@ -4,18 +4,18 @@ use mathlib.Core.Bool.{cond}
 use mathlib.Core.List.{List, _++_}
 use Prim.Native.Nat.{ℕ, _-_, _≤_}
 use lib.Dec.{eqb, ltb}
-use lib.ListN.{length, getD, drop}
+use lib.ListN.{length, drop}
 use Rattle.octets.specs.Bytes.{AllBytes}
 use Rattle.runfile.specs.Reading.{readOf, tableOf}
 use Rattle.run.specs.Run.{Run}
 use Rattle.run.specs.Drive.{runOfFile}
 use Rattle.run.specs.Trace.{traceBy}
 use Rattle.sheet.specs.declared.Reported.{Reported}
-use Rattle.lines.specs.Lines.{answerOf, sheetText}
+use Rattle.lines.specs.Lines.{sheetText}
 
 -- the sheet of a run of a table of so many calls
 abbrev pub runText : ℕ → List ℕ → Run → List ℕ
-runText calls table r = sheetText (traceBy calls r) table (r .book .own) (r .book .told) (r .book .point) (r .book .list)
+runText calls table r = sheetText (traceBy calls r) table (r .book)
 
 -- the text of a file that reads well
 unfoldable pub reportText : List ℕ → List ℕ
@@ -49,12 +49,6 @@ pub record ReportedTo (file out : List ℕ) (answer : Reported) (after : List �
 -- 14 is never given to a buffer of 40,960 bytes: a file is refused there as it is when it is read
 unfoldable pub AlwaysEnough : Type 0
 AlwaysEnough = (file : List ℕ) (room : ℕ) → AllBytes file → 40960 ≤ room → reportOf file room .refused ≡ readOf file .refused
-
--- the remainder in an answer's line is nothing: what was told in a run is 0, or an answer of 32 bits plus 1
-unfoldable pub AnswersWhole : Type 0
-AnswersWhole =
-    (file : List ℕ) → AllBytes file → readOf file .refused ≡ 0 → (c : ℕ)
-    → answerOf (getD (runOfFile file .book .told) c 0) ≡ getD (runOfFile file .book .told) c 0 - 1
 
 -- two answers with their buffers that the contract allows for one input are the same
 unfoldable pub ReportSettled : Type 0

@@ -5,7 +5,6 @@ mod reporting;
 mod showing;
 
 pub use reporting::answer_is_settled;
-pub use reporting::answers_are_whole;
 pub use reporting::buffer_is_enough;
 pub use reporting::report;
 pub use showing::output;

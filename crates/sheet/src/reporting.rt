@@ -4,10 +4,13 @@ ghost use Prim.Native.Nat.{_≤_};
 ghost use lib.Dec.{leb};
 ghost use lib.ListN.{length};
 ghost use Rattle.runfile.specs.Reading.{readOf, tableOf};
+ghost use Rattle.run.specs.Row.{rowPlaces};
+ghost use Rattle.run.specs.Trace.{bookOf};
 ghost use Rattle.lines.specs.Lines.{sheetText};
-ghost use Rattle.sheet.specs.Report.{LaidOn, ReportedTo, AlwaysEnough, AnswersWhole, ReportSettled};
+ghost use Rattle.sheet.specs.Report.{LaidOn, ReportedTo, AlwaysEnough, ReportSettled};
 use crate::Reported;
 use lines::put_sheet;
+use run::PLACES;
 use run::Trace;
 
 // The call table of a file that was read as having so many calls.
@@ -20,40 +23,24 @@ fn table_of(file: &[u8], calls: usize) -> &[u8]
 }
 
 // Whether the sheet has its place: 40,960 bytes are enough, and what is less is held to what the sheet takes on a buffer of one byte.
-fn has_room(
-    room: usize,
-    t: Trace,
-    table: &[u8],
-    own: &[u32],
-    told: &[u64],
-    point: &[u32],
-    list: &[u32],
-) -> bool
-    requires { ⌜ length (sheetText t (now table) (now own) (now told) (now point) (now list)) ≤ 40960 ⌝ }
-    ensures { λ r. ⌜ r ≡ leb (length (sheetText t (now (table .entry)) (now (own .entry)) (now (told .entry)) (now (point .entry)) (now (list .entry)))) room ⌝ }
+fn has_room(room: usize, t: Trace, table: &[u8], row: &[u32]) -> bool
+    requires { ⌜ length (sheetText t (now table) (bookOf t (now row))) ≤ 40960 ⌝ }
+    ensures { λ r. ⌜ r ≡ leb (length (sheetText t (now (table .entry)) (bookOf t (now (row .entry))))) room ⌝ }
 {
     if 40960 <= room {
         return true;
     }
     let mut none = [0u8; 1];
-    let len = put_sheet(&mut none, t, table, own, told, point, list);
+    let len = put_sheet(&mut none, t, table, row);
     len <= room
 }
 
 // Writes the sheet to the front of the buffer, or leaves the buffer as it was where it is too short.
-fn laid(
-    out: &mut [u8],
-    t: Trace,
-    table: &[u8],
-    own: &[u32],
-    told: &[u64],
-    point: &[u32],
-    list: &[u32],
-) -> Reported
-    requires { ⌜ length (sheetText t (now table) (now own) (now told) (now point) (now list)) ≤ 40960 ⌝ }
-    ensures { λ r. ⌜ LaidOn (sheetText t (now (table .entry)) (now (own .entry)) (now (told .entry)) (now (point .entry)) (now (list .entry))) (now (out .entry)) r (now (out .exit)) ⌝ }
+fn laid(out: &mut [u8], t: Trace, table: &[u8], row: &[u32]) -> Reported
+    requires { ⌜ length (sheetText t (now table) (bookOf t (now row))) ≤ 40960 ⌝ }
+    ensures { λ r. ⌜ LaidOn (sheetText t (now (table .entry)) (bookOf t (now (row .entry)))) (now (out .entry)) r (now (out .exit)) ⌝ }
 {
-    let fits = has_room(out.len(), t, table, own, told, point, list);
+    let fits = has_room(out.len(), t, table, row);
     if !fits {
         return Reported {
             refused: 14,
@@ -61,7 +48,7 @@ fn laid(
             len: 0,
         };
     }
-    let len = put_sheet(out, t, table, own, told, point, list);
+    let len = put_sheet(out, t, table, row);
     Reported {
         refused: 0,
         k: 0,
@@ -69,19 +56,12 @@ fn laid(
     }
 }
 
-// The report with rows for the run's book.
-fn report_by(
-    file: &[u8],
-    own: &mut [u32],
-    told: &mut [u64],
-    point: &mut [u32],
-    list: &mut [u32],
-    out: &mut [u8],
-) -> Reported
-    requires { ⌜ (length (now own) ≡ 1025) × ((length (now told) ≡ 1025) × ((length (now point) ≡ 1025) × (length (now list) ≡ 1025))) ⌝ }
+// The report with a row for the run's book.
+fn report_by(file: &[u8], row: &mut [u32], out: &mut [u8]) -> Reported
+    requires { ⌜ length (now row) ≡ rowPlaces ⌝ }
     ensures { λ r. ⌜ ReportedTo (now (file .entry)) (now (out .entry)) r (now (out .exit)) ⌝ }
 {
-    let t = run::traced(file, own, told, point, list);
+    let t = run::traced(file, row);
     if t.refused != 0 {
         return Reported {
             refused: t.refused,
@@ -90,28 +70,20 @@ fn report_by(
         };
     }
     let table = table_of(file, t.calls);
-    laid(out, t, table, own, told, point, list)
+    laid(out, t, table, row)
 }
 
 // Writes the report of a file that reads well to the front of the buffer; refused, it leaves the buffer as it was.
 pub fn report(file: &[u8], out: &mut [u8]) -> Reported
     ensures { λ r. ⌜ ReportedTo (now (file .entry)) (now (out .entry)) r (now (out .exit)) ⌝ }
 {
-    let mut own = [0u32; 1025];
-    let mut told = [0u64; 1025];
-    let mut point = [0u32; 1025];
-    let mut list = [0u32; 1025];
-    report_by(file, &mut own, &mut told, &mut point, &mut list, out)
+    let mut row = [0u32; PLACES];
+    report_by(file, &mut row, out)
 }
 
 // A buffer of 40,960 bytes is always enough.
 pub fn buffer_is_enough()
     ensures { λ r. ⌜ AlwaysEnough ⌝ }
-{}
-
-// The answers that a report prints are those that were told, whole.
-pub fn answers_are_whole()
-    ensures { λ r. ⌜ AnswersWhole ⌝ }
 {}
 
 // The contract of the report allows one answer and one buffer for each input.

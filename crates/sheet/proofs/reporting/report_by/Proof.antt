@@ -1,18 +1,12 @@
--- The rows that are lent fit, so the trace is the file's refusal or its run.
+-- The row that is lent is long enough, so the trace is the file's refusal or its run.
 use borrow.Author.Needs.{needs}
-use mathlib.Core.Path.{_≡_}
-use mathlib.Core.Bool.{true}
 use Rattle.octets.specs.Bytes.{AllBytes}
-use Rattle.run.specs.Trace.{fit}
-use Rattle.sheet.proofs.Reports.{rows-fit, refused, calls-read, at-most, the-report}
+use Rattle.sheet.proofs.Reports.{refused, calls-read, at-most, the-report}
 use Rattle.sheet.proofs.reporting.report_by.Statement.{statement}
 use Rattle.sheet.proofs.reporting.report_by.Tie as tie
 
-fits : (s : tie.Start) → fit (s .args .own .now) (s .args .told .now) (s .args .point .now) (s .args .list .now) ≡ true
-fits s = rows-fit (s .args .own .now) (s .args .told .now) (s .args .point .now) (s .args .list .now) (s .pre .0) (s .pre .1 .0) (s .pre .1 .1 .0) (s .pre .1 .1 .1)
-
 abbrev first : tie.Else1 → tie.After-shared-slice-known
-first c = c .before .before .before .before .before .before .before .before .before .before .before .before .before .before .before .before .before .before .before .before
+first c = c .before .before .before .before .before .before .before .before
 
 bytes : (c : tie.Else1) → AllBytes (first c .before .args .file .now)
 bytes c i = first c .shared-slice-known .given i .fits
@@ -22,25 +16,19 @@ report-by-spec =
     tie.close
     (tie.spec (λ c κs. tt)
     (λ c. search needs)
-    (λ c. search needs)
+    (λ c.
+    let s = c .before .before .before .before .before .before .before .before .before in
+    refused (s .args .file .now) (s .args .out .now) (s .args .row .now) _ _ (s .pre) (c .before .before .before .before .traced .ensures) (c .if1 .taken))
+    (λ c κs.
+    let s = c .before .before .before .before .before .before .before .before .before in
+    calls-read (s .args .file .now) (s .args .out .now) (s .args .row .now) _ _ (s .pre) (c .before .before .before .before .traced .ensures) (c .if1 .left))
+    (λ c κs.
+    let e = c .before .before .before in
+    let s = e .before .before .before .before .before .before .before .before .before in
+    at-most (s .args .file .now) (s .args .out .now) (s .args .row .now) _ _ (s .pre) (e .before .before .before .before .traced .ensures) (e .if1 .left) (bytes e) _ (c .before .before .table-of .ensures))
     (λ c. search needs)
     (λ c. search needs)
     (λ c.
-    let s = c .before .before .before .before .before .before .before .before .before .before .before .before .before .before .before .before .before .before .before .before .before in
-    refused (s .args .file .now) (s .args .out .now) (s .args .own .now) (s .args .told .now) (s .args .point .now) (s .args .list .now) _ _ _ _ _ (fits s) (c .before .before .before .before .before .before .before .before .before .before .traced .ensures) (c .if1 .taken))
-    (λ c κs.
-    let s = first c .before in
-    calls-read (s .args .file .now) (s .args .out .now) (s .args .own .now) (s .args .told .now) (s .args .point .now) (s .args .list .now) _ _ _ _ _ (fits s) (c .before .before .before .before .before .before .before .before .before .before .traced .ensures) (c .if1 .left))
-    (λ c κs.
     let e = c .before .before .before .before .before .before in
-    let s = first e .before in
-    at-most (s .args .file .now) (s .args .out .now) (s .args .own .now) (s .args .told .now) (s .args .point .now) (s .args .list .now) _ _ _ _ _ (fits s) (e .before .before .before .before .before .before .before .before .before .before .traced .ensures) (e .if1 .left) (bytes e) _ (c .before .before .before .before .before .table-of .ensures))
-    (λ c. search needs)
-    (λ c. search needs)
-    (λ c. search needs)
-    (λ c. search needs)
-    (λ c. search needs)
-    (λ c.
-    let e = c .before .before .before .before .before .before .before .before .before in
-    let s = first e .before in
-    the-report (s .args .file .now) (s .args .out .now) (s .args .own .now) (s .args .told .now) (s .args .point .now) (s .args .list .now) _ _ _ _ _ (fits s) (e .before .before .before .before .before .before .before .before .before .before .traced .ensures) (e .if1 .left) (bytes e) _ (c .before .before .before .before .before .before .before .before .table-of .ensures) (c .before .before .laid .ensures)))
+    let s = e .before .before .before .before .before .before .before .before .before in
+    the-report (s .args .file .now) (s .args .out .now) (s .args .row .now) _ _ (s .pre) (e .before .before .before .before .traced .ensures) (e .if1 .left) (bytes e) _ (c .before .before .before .before .before .table-of .ensures) (c .before .before .laid .ensures)))

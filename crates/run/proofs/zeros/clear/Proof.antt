@@ -6,8 +6,8 @@ use native.Mathlib.Omega.{arith}
 use lib.ListN.{length, length-set}
 use Rattle.run.specs.Trace.{cleared}
 use Rattle.run.proofs.Clears.{clear-one, all-clear}
-use Rattle.run.proofs.rows.clear.Statement.{statement}
-use Rattle.run.proofs.rows.clear.Tie as tie
+use Rattle.run.proofs.zeros.clear.Statement.{statement}
+use Rattle.run.proofs.zeros.clear.Tie as tie
 
 abbrev Inv-loop : tie.InvT-loop
 Inv-loop row₀ from i₀ row i = (i ≤ length row) × ((length row ≡ length row₀) × (cleared row i ≡ cleared row₀ from))
