@@ -11,7 +11,7 @@ use Rattle.method.specs.declared.Answer.the-variants.{Idle, Going, Ended, Refus
 use Rattle.run.specs.declared.Tally.{Tally}
 use Rattle.run.specs.declared.Errand.{Errand}
 use Rattle.run.specs.declared.Operation.{Operation}
-use Rattle.run.specs.Book.{Book, acts, enters, allEnter, callEnds, idles, waiters, raisers, actsFor, operates, unended}
+use Rattle.run.specs.Book.{Book, acts, enters, allEnter, callEnds, idles, waiters, raisers, actsFor, goesOn, unended}
 use Rattle.run.specs.Row.{sizeOf, startOf, partOf, wrote, bookIn, notesBy, onBook, pointed, Fits, Becomes, HasPlaces}
 use Rattle.run.specs.Drive.{oneIdle}
 use Rattle.run.proofs.Written.{written, read}
@@ -194,7 +194,7 @@ module _ (row : List ℕ) (s : Tally) (x : Answer) (e : Errand) (o : Operation) 
   unfolding unended
   by-idle r q t = rw (q, t) (record { notes = refl; fits = record { places = f .places; all = f .all; within = f .within } })
 
-  pub by-going : (row′ : List ℕ) (r : Tally) → x ≡ Going → Becomes row s (operates e o next wait) row′ r → Becomes row s (unended x e o next wait) row′ r
+  pub by-going : (row′ : List ℕ) (r : Tally) → x ≡ Going → Becomes row s (goesOn e o next wait) row′ r → Becomes row s (unended x e o next wait) row′ r
   unfolding unended
   by-going row′ r q a = rw q a
 

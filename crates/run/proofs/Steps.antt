@@ -23,6 +23,7 @@ use Rattle.reach.specs.Reach.{reaching, moveOf}
 use Rattle.bench.specs.declared.Bench.{Bench}
 use Rattle.bench.specs.Record.{stationAt, onBench}
 use Rattle.bench.specs.Record.{turned as benchTurned}
+use Rattle.bench.specs.Points.{pointsIn}
 use Rattle.bench.specs.Sound.{sound}
 use Rattle.rules.specs.Limits.{badStation}
 use Rattle.bench.specs.Turn.{turnOf}
@@ -32,7 +33,7 @@ use Rattle.bench.proofs.Bridge.{taken, putBack, step-law}
 use Rattle.runfile.specs.First.{firstFrom}
 use Rattle.runfile.specs.Layout.{records, callOf}
 use Rattle.run.specs.Calls.{madeBy, callAfter, offer, offering, onOffer, callFor, errandOf, waits, operationOf}
-use Rattle.run.specs.Book.{Book, acts, allEnter, callEnds, waiters, raisers, operates, finishes}
+use Rattle.run.specs.Book.{Book, acts, allEnter, callEnds, waiters, raisers, goesOn, finishes}
 use Rattle.run.specs.Run.{noted}
 use Rattle.run.proofs.Links.{none-after}
 
@@ -160,7 +161,7 @@ module _ (w : Bench) (table next wait : List ℕ) (i d l turn : ℕ)
       ap (λ z. callEnds turn (callFor here d l) result (allEnter turn (cond (atRest here) (i ∷ []) []) z)) (same-acts took b h)
 
   module _ (seen : (j : ℕ) → j < 33 → getD wait j 0 ≡ waits (stationAt w j)) (few : w .n < 33) where
-    same-points : raisers (operationOf t (w .v) 0 (w .n)) wait ≡ points oneWord (stationAt w) (w .n) i here (w .v) t Going
+    same-points : raisers (operationOf t (w .v) 0 (w .n)) wait ≡ pointsIn w i Going
     unfolding points
     same-points =
         either-way (raises here (w .v) t)
@@ -172,8 +173,8 @@ module _ (w : Bench) (table next wait : List ℕ) (i d l turn : ℕ)
         (λ e. rw e)
 
     pub going-noted : (own : ℕ) (b : Book) → (atRest here ≡ true → 0 < d)
-        → operates (errandOf here turn i d l) (operationOf t (w .v) own (w .n)) next wait b ≡ noted table w turn i (callFor here d l) own Going b
-    unfolding operates noted
+        → goesOn (errandOf here turn i d l) (operationOf t (w .v) own (w .n)) next wait b ≡ noted table w turn i (callFor here d l) own Going b
+    unfolding goesOn noted
     going-noted own b h =
         ap (λ z. allEnter turn (raisers (operationOf t (w .v) 0 (w .n)) wait) z) (same-acts own b h)
         ∙ ap (λ js. allEnter turn js (acts (atRest here) i (callFor here d l) (callAfter table i (callFor here d l)) own b)) same-points

@@ -133,8 +133,8 @@ abbrev pub actsFor : Errand → ℕ → List ℕ → Book → Book
 actsFor e turns next b = acts (e .rests) (e .station) (e .call) (getD next (e .call) 0) turns b
 
 -- after one that did not end the call
-unfoldable pub operates : Errand → Operation → List ℕ → List ℕ → Book → Book
-operates e o next wait b = allEnter (e .turn) (raisers o wait) (actsFor e (o .own) next b)
+unfoldable pub goesOn : Errand → Operation → List ℕ → List ℕ → Book → Book
+goesOn e o next wait b = allEnter (e .turn) (raisers o wait) (actsFor e (o .own) next b)
 
 -- after the one that ended it
 unfoldable pub finishes : Errand → Finish → List ℕ → Book → Book
@@ -144,6 +144,6 @@ finishes e f next b =
 -- after a turn that did not end its call, by its answer
 unfoldable pub unended : Answer → Errand → Operation → List ℕ → List ℕ → Book → Book
 unended Idle e o next wait b = idles b
-unended Going e o next wait b = operates e o next wait b
+unended Going e o next wait b = goesOn e o next wait b
 unended (Ended result own) e o next wait b = b
 unended (Refused number) e o next wait b = b

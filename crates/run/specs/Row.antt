@@ -2,7 +2,7 @@
 use mathlib.Core.Path.{_≡_}
 use mathlib.Core.Bool.{cond, _||_}
 use mathlib.Core.List.{List, [], _∷_}
-use Prim.Native.Nat.{ℕ, zero, suc, _+_, _<_}
+use Prim.Native.Nat.{ℕ, zero, suc, _+_, _*_, _<_}
 use lib.Dec.{ltb, eqb}
 use lib.ListN.{length, getD, set, take, replicate}
 use Rattle.rules.specs.Limits.{stationLimit, callLimit}
@@ -57,7 +57,7 @@ startOf (suc p) = startOf p + sizeOf p
 
 -- the places of all parts
 abbrev pub rowPlaces : ℕ
-rowPlaces = 6249
+rowPlaces = 6 * byCall + 3 * byStation
 
 unfoldable pub zeroRow : List ℕ
 zeroRow = replicate rowPlaces 0

@@ -3,7 +3,7 @@ ghost use mathlib.Core.Path.{_≡_};
 ghost use mathlib.Core.Bool.{cond};
 ghost use mathlib.Core.List.{[], _∷_};
 ghost use Prim.Native.Nat.{_<_, _≤_};
-ghost use Rattle.run.specs.Book.{enters, allEnter, waiters, raisers, actsFor, operates, finishes, unended};
+ghost use Rattle.run.specs.Book.{enters, allEnter, waiters, raisers, actsFor, goesOn, finishes, unended};
 ghost use Rattle.run.specs.Row.{byStation, waitPart, nextPart, partOf, Fits, Becomes, HasPlaces};
 ghost use Rattle.run.specs.Drive.{oneIdle};
 use crate::Errand;
@@ -105,7 +105,7 @@ fn raised(row: &mut [u32], s: Tally, o: Operation, turn: u32) -> Tally
 // A turn with an operation that did not end its call.
 fn operated(row: &mut [u32], s: Tally, e: Errand, o: Operation) -> Tally
     requires { ⌜ Fits (now row) s × (HasPlaces e × ((s .begun < 65536) × ((o .n < byStation) × (o .saw .pid < byStation)))) ⌝ }
-    ensures { λ r. ⌜ Becomes (now (row .entry)) s (operates e o (partOf (now (row .entry)) nextPart) (partOf (now (row .entry)) waitPart)) (now (row .exit)) r ⌝ }
+    ensures { λ r. ⌜ Becomes (now (row .entry)) s (goesOn e o (partOf (now (row .entry)) nextPart) (partOf (now (row .entry)) waitPart)) (now (row .exit)) r ⌝ }
 {
     let turn = e.turn;
     let own = o.own;

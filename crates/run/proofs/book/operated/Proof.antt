@@ -1,13 +1,13 @@
 use borrow.Author.Needs.{needs}
 use mathlib.Core.Path.{ap}
-use Rattle.run.specs.Book.{allEnter, raisers, actsFor, operates}
+use Rattle.run.specs.Book.{allEnter, raisers, actsFor, goesOn}
 use Rattle.run.specs.Row.{partOf}
 use Rattle.run.proofs.Books.{same-change, and-then, same-wait}
 use Rattle.run.proofs.book.operated.Statement.{statement}
 use Rattle.run.proofs.book.operated.Tie as tie
 
 pub operated-spec : {M : Type 1} → statement M
-unfolding operates
+unfolding goesOn
 operated-spec =
     tie.close
     (tie.spec (λ c κs. search needs) (λ c κs. search needs) (λ c. search needs)
