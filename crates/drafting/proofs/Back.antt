@@ -26,7 +26,7 @@ use Rattle.runtext.proofs.Records.{GoodCall, not-bad}
 use Rattle.runtext.proofs.Runs.{GoodRun, call-is, call-length, call-good, turn-good}
 use Rattle.drafting.specs.declared.Stage.{Stage}
 use Rattle.drafting.specs.declared.Stage.the-variants.{StartValue, Stations, Count, Call, Kind, First, Second, Turn}
-use Rattle.drafting.specs.Draft.{noNumber, same, draft, tookStart, tookCount, tookStation, tookKind, tookFirst, tookSecond, tookTurn, tookAt, madeCall, endedAt, lackingAt, callFrom, turnFrom}
+use Rattle.drafting.specs.Draft.{noNumber, sameBytes, draft, tookStart, tookCount, tookStation, tookKind, tookFirst, tookSecond, tookTurn, tookAt, madeCall, endedAt, lackingAt, callFrom, turnFrom}
 use Rattle.drafting.specs.Scan.{Scanned, scan, empty, noScan, wordEnded, lineEnded, stepOn, step, run, given}
 use Rattle.drafting.specs.Parse.{lastDraft, lacking, tableIn, turnsIn}
 use Rattle.drafting.proofs.Sane.{no-call, no-turn}
@@ -38,7 +38,7 @@ call station kind a b = record { station = station; kind = kind; a = a; b = b }
 -- `start X` and `stations N`
 module _ (x n : ℕ) (h : x < noNumber) (g : 0 < n) (k : n ≤ stationLimit) where
   first-word : Goes noScan (startWord ++ (space ∷ [])) (scan 1 false [] (draft 0 StartValue 0 0 0 0 noCall)) [] []
-  unfolding run given step stepOn wordEnded tookAt same empty callFrom turnFrom
+  unfolding run given step stepOn wordEnded tookAt sameBytes empty callFrom turnFrom
   first-word = record { ends = refl; calls = refl; turned = refl }
 
   first-line : step (scan 1 false (decimal x) (draft 0 StartValue 0 0 0 0 noCall)) newline ≡ scan 2 false [] (draft 0 Stations x 0 0 0 noCall)
@@ -46,7 +46,7 @@ module _ (x n : ℕ) (h : x < noNumber) (g : 0 < n) (k : n ≤ stationLimit) whe
   first-line = rw (number-there x h, number-told x h, lt-ltb x noNumber h)
 
   second-word : Goes (scan 2 false [] (draft 0 Stations x 0 0 0 noCall)) (stationsWord ++ (space ∷ [])) (scan 2 false [] (draft 0 Count x 0 0 0 noCall)) [] []
-  unfolding run given step stepOn wordEnded tookAt same empty callFrom turnFrom
+  unfolding run given step stepOn wordEnded tookAt sameBytes empty callFrom turnFrom
   second-word = record { ends = refl; calls = refl; turned = refl }
 
   second-line : step (scan 2 false (decimal n) (draft 0 Count x 0 0 0 noCall)) newline ≡ scan 3 false [] (draft 0 Call x n 0 0 noCall)
@@ -86,7 +86,7 @@ module _ (line x n q : ℕ) (h : q < callLimit) (k : n ≤ stationLimit) (c₀ :
     at-kind = both (number-goes v (omega arith) line x n q 0 Call c₀) (quiet-byte _ _ space station-taken refl refl)
 
     read-made : step (scan line false readWord (draft 0 Kind x n q 0 (call v 0 0 0))) newline ≡ to (call v 0 0 0)
-    unfolding step stepOn lineEnded wordEnded tookAt tookKind same empty endedAt madeCall
+    unfolding step stepOn lineEnded wordEnded tookAt tookKind sameBytes empty endedAt madeCall
     read-made = rw (lt-leb callLimit q h)
 
     read-goes : Goes from ((decimal v ++ (space ∷ [])) ++ readWord ++ (newline ∷ [])) (to (call v 0 0 0)) (recordBytes (call v 0 0 0)) []
@@ -118,11 +118,11 @@ module _ (line x n q : ℕ) (h : q < callLimit) (k : n ≤ stationLimit) (c₀ :
           both (both (both at-kind (word-goes line x n q 0 Kind (call v 0 0 0) name p)) (quiet-byte _ _ space e refl refl)) values-go
 
     set-taken : step (scan line false setWord (draft 0 Kind x n q 0 (call v 0 0 0))) space ≡ scan line false [] (draft 0 First x n q 0 (call v 1 0 0))
-    unfolding step stepOn wordEnded tookAt tookKind same empty
+    unfolding step stepOn wordEnded tookAt tookKind sameBytes empty
     set-taken = refl
 
     swap-taken : step (scan line false swapWord (draft 0 Kind x n q 0 (call v 0 0 0))) space ≡ scan line false [] (draft 0 First x n q 0 (call v 2 0 0))
-    unfolding step stepOn wordEnded tookAt tookKind same empty
+    unfolding step stepOn wordEnded tookAt tookKind sameBytes empty
     swap-taken = refl
 
     -- the three kinds, as they are printed
@@ -193,7 +193,7 @@ module _ (line x n q t : ℕ) (c₀ : CallRecord) (h : t < turnLimit) (k : n ≤
 -- `turns` on a line
 module _ (line x n q : ℕ) (c : CallRecord) where
   turns-line : step (scan line false turnsWord (draft 0 Call x n q 0 c)) newline ≡ scan (cut (line + 1)) false [] (draft 0 Turn x n q 0 c)
-  unfolding step stepOn lineEnded wordEnded tookAt tookStation same empty endedAt
+  unfolding step stepOn lineEnded wordEnded tookAt tookStation sameBytes empty endedAt
   turns-line = refl
 
   turns-word : Goes (scan line false [] (draft 0 Call x n q 0 c)) (turnsWord ++ (newline ∷ [])) (scan (cut (line + 1)) false [] (draft 0 Turn x n q 0 c)) [] []

@@ -14,7 +14,7 @@ use Rattle.drafting.specs.declared.Stage.{Stage}
 use Rattle.drafting.specs.declared.Stage.the-variants.{Start, StartValue, AfterStart, Stations, Count, AfterCount, Call, Kind, First, Second, AfterCall, Turn}
 use Rattle.drafting.specs.declared.Draft.{Draft}
 use Rattle.drafting.specs.declared.Scan.{Scan}
-use Rattle.drafting.specs.Draft.{numberFrom, same, said, tookStart, tookCount, tookStation, tookKind, tookFirst, tookSecond, tookTurn, tookAt}
+use Rattle.drafting.specs.Draft.{numberFrom, sameBytes, said, tookStart, tookCount, tookStation, tookKind, tookFirst, tookSecond, tookTurn, tookAt}
 use Rattle.drafting.specs.Scan.{Scanned, empty, wordEnded, lineEnded, nextLine, isBlank, stepOn, step}
 use Rattle.drafting.specs.Coded.{noWord, noCode, isLetter, codeMore, codeFrom, grown, coded, codeSaid, codeScan, codedScan}
 use Rattle.drafting.proofs.Numbers.{letter}
@@ -67,16 +67,16 @@ only (x ∷ xs) (t ∷ ts) e h =
     let j : codeBack xs ≡ codeBack ts = omega (arith, m .is, m .low, m .high, n .is, n .low, n .high) in
     rw (i, only xs ts j (n .before)) refl
 
-same-is : (xs ys : List ℕ) → same xs ys ≡ true → xs ≡ ys
-unfolding same
+same-is : (xs ys : List ℕ) → sameBytes xs ys ≡ true → xs ≡ ys
+unfolding sameBytes
 same-is [] [] e = refl
 same-is [] (y ∷ ys) e = absurd (true≢false (sym e))
 same-is (x ∷ xs) [] e = absurd (true≢false (sym e))
 same-is (x ∷ xs) (y ∷ ys) e =
-    rw (eqb-true x y (and-left (eqb x y) (same xs ys) e), same-is xs ys (and-right (eqb x y) (same xs ys) e)) refl
+    rw (eqb-true x y (and-left (eqb x y) (sameBytes xs ys) e), same-is xs ys (and-right (eqb x y) (sameBytes xs ys) e)) refl
 
-same-self : (xs : List ℕ) → same xs xs ≡ true
-unfolding same
+same-self : (xs : List ℕ) → sameBytes xs xs ≡ true
+unfolding sameBytes
 same-self [] = refl
 same-self (x ∷ xs) = and-both (eq-eqb x x refl) (same-self xs)
 
@@ -88,16 +88,16 @@ same-code w t h e =
     let g = from-back t [] in
     sym (twice w) ∙ ap (λ l. onto l []) (only (onto w []) (onto t []) (sym f ∙ e ∙ g) (rw (← g) h)) ∙ twice t
 
-pub by-code : (w t : List ℕ) → codeFrom 0 t < noCode → eqb (codeFrom 0 w) (codeFrom 0 t) ≡ same w t
+pub by-code : (w t : List ℕ) → codeFrom 0 t < noCode → eqb (codeFrom 0 w) (codeFrom 0 t) ≡ sameBytes w t
 by-code w t h =
-    either-way (same w t)
+    either-way (sameBytes w t)
     (λ s. eq-eqb (codeFrom 0 w) (codeFrom 0 t) (ap (codeFrom 0) (same-is w t s)) ∙ sym s)
     (λ f.
-    ne-eqb (codeFrom 0 w) (codeFrom 0 t) (λ e. true≢false (sym (same-self t) ∙ ap (λ l. same l t) (sym (same-code w t h e)) ∙ f))
+    ne-eqb (codeFrom 0 w) (codeFrom 0 t) (λ e. true≢false (sym (same-self t) ∙ ap (λ l. sameBytes l t) (sym (same-code w t h e)) ∙ f))
     ∙ sym f)
 
 none-by-code : (w : List ℕ) → eqb (codeFrom 0 w) 0 ≡ empty w
-unfolding codeFrom same empty
+unfolding codeFrom sameBytes empty
 none-by-code [] = refl
 none-by-code (b ∷ bs) = by-code (b ∷ bs) [] (omega arith)
 

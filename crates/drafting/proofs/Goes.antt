@@ -13,7 +13,7 @@ use Rattle.runtext.specs.Letters.{turnsWord}
 use Rattle.runfile.specs.declared.CallRecord.{CallRecord}
 use Rattle.drafting.specs.declared.Stage.{Stage}
 use Rattle.drafting.specs.declared.Draft.{Draft}
-use Rattle.drafting.specs.Draft.{noNumber, numberFrom, same, draft, callMade, turnMade}
+use Rattle.drafting.specs.Draft.{noNumber, numberFrom, sameBytes, draft, callMade, turnMade}
 use Rattle.drafting.specs.Scan.{Scanned, scan, empty, isBlank, stepOn, step, run, given}
 use Rattle.drafting.proofs.Codes.{number-both}
 use Rattle.drafting.proofs.Scans.{run-both, given-both}
@@ -108,8 +108,8 @@ unfolding empty
 low-there [] h = absurd h
 low-there (b ∷ l) h = refl
 
-low-other : (l : List ℕ) → Low l → same l turnsWord ≡ false
-unfolding same
+low-other : (l : List ℕ) → Low l → sameBytes l turnsWord ≡ false
+unfolding sameBytes
 low-other [] h = absurd h
 low-other (b ∷ l) h = rw (ne-eqb b 116 (λ e. omega arith)) refl
 
@@ -154,7 +154,7 @@ module _ (v : ℕ) (h : v < noNumber) where
   pub number-there : empty (decimal v) ≡ false
   number-there = low-there (decimal v) (numeral v h .low)
 
-  pub number-other : same (decimal v) turnsWord ≡ false
+  pub number-other : sameBytes (decimal v) turnsWord ≡ false
   number-other = low-other (decimal v) (numeral v h .low)
 
   pub number-goes : (line x n q t : ℕ) (stage : Stage) (c : CallRecord)

@@ -33,15 +33,15 @@ numberFrom number [] = number
 numberFrom number (b ∷ bs) = numberFrom (numberMore number b) bs
 
 -- two rows of bytes are the same, byte for byte
-unfoldable pub same : List ℕ → List ℕ → Bool
-same [] [] = true
-same [] (y ∷ ys) = false
-same (x ∷ xs) [] = false
-same (x ∷ xs) (y ∷ ys) = eqb x y && same xs ys
+unfoldable pub sameBytes : List ℕ → List ℕ → Bool
+sameBytes [] [] = true
+sameBytes [] (y ∷ ys) = false
+sameBytes (x ∷ xs) [] = false
+sameBytes (x ∷ xs) (y ∷ ys) = eqb x y && sameBytes xs ys
 
 -- what the bytes of a word say
 abbrev pub said : List ℕ → Said
-said bytes = record { is = λ text. same bytes text; number = numberFrom 0 bytes }
+said bytes = record { is = λ text. sameBytes bytes text; number = numberFrom 0 bytes }
 
 abbrev pub isValue : Said → Bool
 isValue w = ltb (w .number) noNumber

@@ -1,5 +1,5 @@
-// A text byte by byte: where its words and lines end. What is said of a scan is said of each scan by bytes that it keeps in its
-// two numbers.
+// A text byte by byte: where its words and lines end. A scan keeps its word as two numbers; what is ensured of it is ensured for
+// whatever bytes they are the numbers of.
 ghost use mathlib.Core.Path.{_≡_};
 ghost use mathlib.Core.Bool.{false};
 ghost use Rattle.drafting.specs.Draft.{noDraft};
