@@ -26,51 +26,50 @@ use Rattle.runtext.proofs.Records.{GoodCall, not-bad}
 use Rattle.runtext.proofs.Runs.{GoodRun, call-is, call-length, call-good, turn-good}
 use Rattle.drafting.specs.declared.Stage.{Stage}
 use Rattle.drafting.specs.declared.Stage.the-variants.{StartValue, Stations, Count, Call, Kind, First, Second, Turn}
-use Rattle.drafting.specs.declared.Scan.{Scan}
-use Rattle.drafting.specs.Draft.{word, noWord, noCode, noNumber, grown, codeFrom, is, draft, tookStart, tookCount, tookStation, tookKind, tookFirst, tookSecond, tookTurn, tookAt, madeCall, endedAt, lackingAt, callFrom, turnFrom}
-use Rattle.drafting.specs.Scan.{scan, noScan, wordEnded, lineEnded, stepOn, step, run, given}
+use Rattle.drafting.specs.Draft.{noNumber, sameBytes, draft, tookStart, tookCount, tookStation, tookKind, tookFirst, tookSecond, tookTurn, tookAt, madeCall, endedAt, lackingAt, callFrom, turnFrom}
+use Rattle.drafting.specs.Scan.{Scanned, scan, empty, noScan, wordEnded, lineEnded, stepOn, step, run, given}
 use Rattle.drafting.specs.Parse.{lastDraft, lacking, tableIn, turnsIn}
 use Rattle.drafting.proofs.Sane.{no-call, no-turn}
-use Rattle.drafting.proofs.Goes.{Goes, stays, both, byte-goes, quiet-byte, plain, spelt, word-goes, number-goes}
+use Rattle.drafting.proofs.Goes.{Goes, stays, both, byte-goes, quiet-byte, plain, word-goes, number-told, number-there, number-other, number-goes}
 
 abbrev call : ℕ → ℕ → ℕ → ℕ → CallRecord
 call station kind a b = record { station = station; kind = kind; a = a; b = b }
 
 -- `start X` and `stations N`
 module _ (x n : ℕ) (h : x < noNumber) (g : 0 < n) (k : n ≤ stationLimit) where
-  first-word : Goes noScan (startWord ++ (space ∷ [])) (scan 1 false noWord (draft 0 StartValue 0 0 0 0 noCall)) [] []
-  unfolding run given step stepOn wordEnded tookAt grown is codeFrom callFrom turnFrom
+  first-word : Goes noScan (startWord ++ (space ∷ [])) (scan 1 false [] (draft 0 StartValue 0 0 0 0 noCall)) [] []
+  unfolding run given step stepOn wordEnded tookAt sameBytes empty callFrom turnFrom
   first-word = record { ends = refl; calls = refl; turned = refl }
 
-  first-line : step (scan 1 false (word noCode x) (draft 0 StartValue 0 0 0 0 noCall)) newline ≡ scan 2 false noWord (draft 0 Stations x 0 0 0 noCall)
+  first-line : step (scan 1 false (decimal x) (draft 0 StartValue 0 0 0 0 noCall)) newline ≡ scan 2 false [] (draft 0 Stations x 0 0 0 noCall)
   unfolding step stepOn lineEnded wordEnded tookAt tookStart endedAt
-  first-line = rw (lt-ltb x noNumber h)
+  first-line = rw (number-there x h, number-told x h, lt-ltb x noNumber h)
 
-  second-word : Goes (scan 2 false noWord (draft 0 Stations x 0 0 0 noCall)) (stationsWord ++ (space ∷ [])) (scan 2 false noWord (draft 0 Count x 0 0 0 noCall)) [] []
-  unfolding run given step stepOn wordEnded tookAt grown is codeFrom callFrom turnFrom
+  second-word : Goes (scan 2 false [] (draft 0 Stations x 0 0 0 noCall)) (stationsWord ++ (space ∷ [])) (scan 2 false [] (draft 0 Count x 0 0 0 noCall)) [] []
+  unfolding run given step stepOn wordEnded tookAt sameBytes empty callFrom turnFrom
   second-word = record { ends = refl; calls = refl; turned = refl }
 
-  second-line : step (scan 2 false (word noCode n) (draft 0 Count x 0 0 0 noCall)) newline ≡ scan 3 false noWord (draft 0 Call x n 0 0 noCall)
+  second-line : step (scan 2 false (decimal n) (draft 0 Count x 0 0 0 noCall)) newline ≡ scan 3 false [] (draft 0 Call x n 0 0 noCall)
   unfolding step stepOn lineEnded wordEnded tookAt tookCount endedAt
-  second-line = rw (lt-ltb 0 n g, le-leb n stationLimit k)
+  second-line = rw (number-there n (omega arith), number-told n (omega arith), lt-ltb 0 n g, le-leb n stationLimit k)
 
-  head-goes : Goes noScan (headText x n) (scan 3 false noWord (draft 0 Call x n 0 0 noCall)) [] []
+  head-goes : Goes noScan (headText x n) (scan 3 false [] (draft 0 Call x n 0 0 noCall)) [] []
   unfolding headText
   head-goes =
-      both (both (both (both first-word (number-goes 1 0 0 0 0 StartValue noCall x h)) (both (quiet-byte _ _ newline first-line refl refl) second-word))
-      (number-goes 2 x 0 0 0 Count noCall n (omega arith)))
+      both (both (both (both first-word (number-goes x h 1 0 0 0 0 StartValue noCall)) (both (quiet-byte _ _ newline first-line refl refl) second-word))
+      (number-goes n (omega arith) 2 x 0 0 0 Count noCall))
       (quiet-byte _ _ newline second-line refl refl)
 
 -- a call's line
 module _ (line x n q : ℕ) (h : q < callLimit) (k : n ≤ stationLimit) (c₀ : CallRecord) where
-  abbrev from : Scan
-  from = scan line false noWord (draft 0 Call x n q 0 c₀)
+  abbrev from : Scanned
+  from = scan line false [] (draft 0 Call x n q 0 c₀)
 
-  abbrev to : CallRecord → Scan
-  to c = scan (cut (line + 1)) false noWord (draft 0 Call x n (q + 1) 0 c)
+  abbrev to : CallRecord → Scanned
+  to c = scan (cut (line + 1)) false [] (draft 0 Call x n (q + 1) 0 c)
 
   -- the call is made by the newline
-  made : (s : Scan) (c : CallRecord) → step s newline ≡ to c → s .draft .q ≡ q → s .draft .t ≡ 0 → Goes s (newline ∷ []) (to c) (recordBytes c) []
+  made : (s : Scanned) (c : CallRecord) → step s newline ≡ to c → s .draft .q ≡ q → s .draft .t ≡ 0 → Goes s (newline ∷ []) (to c) (recordBytes c) []
   unfolding callFrom
   made s c e f g =
       let b = byte-goes s (to c) newline e in
@@ -78,52 +77,52 @@ module _ (line x n q : ℕ) (h : q < callLimit) (k : n ≤ stationLimit) (c₀ :
       record { ends = b .ends; calls = b .calls ∙ rw z; turned = b .turned ∙ no-turn (s .draft .t) (to c .draft) g }
 
   module _ (v : ℕ) (some : 0 < v) (few : v ≤ n) where
-    station-taken : step (scan line false (word noCode v) (draft 0 Call x n q 0 c₀)) space ≡ scan line false noWord (draft 0 Kind x n q 0 (call v 0 0 0))
-    unfolding step stepOn wordEnded tookAt tookStation is codeFrom
-    station-taken = rw (lt-ltb 0 v some, le-leb v n few)
+    station-taken : step (scan line false (decimal v) (draft 0 Call x n q 0 c₀)) space ≡ scan line false [] (draft 0 Kind x n q 0 (call v 0 0 0))
+    unfolding step stepOn wordEnded tookAt tookStation
+    station-taken = rw (number-there v (omega arith), number-other v (omega arith), number-told v (omega arith), lt-ltb 0 v some, le-leb v n few)
 
     -- the station and a space
-    at-kind : Goes (scan line false noWord (draft 0 Call x n q 0 c₀)) (decimal v ++ (space ∷ [])) (scan line false noWord (draft 0 Kind x n q 0 (call v 0 0 0))) [] []
-    at-kind = both (number-goes line x n q 0 Call c₀ v (omega arith)) (quiet-byte _ _ space station-taken refl refl)
+    at-kind : Goes (scan line false [] (draft 0 Call x n q 0 c₀)) (decimal v ++ (space ∷ [])) (scan line false [] (draft 0 Kind x n q 0 (call v 0 0 0))) [] []
+    at-kind = both (number-goes v (omega arith) line x n q 0 Call c₀) (quiet-byte _ _ space station-taken refl refl)
 
-    read-made : step (scan line false (spelt noWord readWord) (draft 0 Kind x n q 0 (call v 0 0 0))) newline ≡ to (call v 0 0 0)
-    unfolding step stepOn lineEnded wordEnded tookAt tookKind is codeFrom grown endedAt madeCall
+    read-made : step (scan line false readWord (draft 0 Kind x n q 0 (call v 0 0 0))) newline ≡ to (call v 0 0 0)
+    unfolding step stepOn lineEnded wordEnded tookAt tookKind sameBytes empty endedAt madeCall
     read-made = rw (lt-leb callLimit q h)
 
     read-goes : Goes from ((decimal v ++ (space ∷ [])) ++ readWord ++ (newline ∷ [])) (to (call v 0 0 0)) (recordBytes (call v 0 0 0)) []
     read-goes =
-        both (both at-kind (word-goes line x n q 0 Kind (call v 0 0 0) readWord noWord refl)) (made _ (call v 0 0 0) read-made refl refl)
+        both (both at-kind (word-goes line x n q 0 Kind (call v 0 0 0) readWord refl)) (made _ (call v 0 0 0) read-made refl refl)
 
     -- a set or a swap, after its name
     module _ (kind a b : ℕ) (la : a < noNumber) (lb : b < noNumber) where
-      first-taken : step (scan line false (word noCode a) (draft 0 First x n q 0 (call v kind 0 0))) space ≡ scan line false noWord (draft 0 Second x n q 0 (call v kind a 0))
+      first-taken : step (scan line false (decimal a) (draft 0 First x n q 0 (call v kind 0 0))) space ≡ scan line false [] (draft 0 Second x n q 0 (call v kind a 0))
       unfolding step stepOn wordEnded tookAt tookFirst
-      first-taken = rw (lt-ltb a noNumber la)
+      first-taken = rw (number-there a la, number-told a la, lt-ltb a noNumber la)
 
-      second-made : step (scan line false (word noCode b) (draft 0 Second x n q 0 (call v kind a 0))) newline ≡ to (call v kind a b)
+      second-made : step (scan line false (decimal b) (draft 0 Second x n q 0 (call v kind a 0))) newline ≡ to (call v kind a b)
       unfolding step stepOn lineEnded wordEnded tookAt tookSecond endedAt madeCall
-      second-made = rw (lt-ltb b noNumber lb, lt-leb callLimit q h)
+      second-made = rw (number-there b lb, number-told b lb, lt-ltb b noNumber lb, lt-leb callLimit q h)
 
-      values-go : Goes (scan line false noWord (draft 0 First x n q 0 (call v kind 0 0))) (decimal a ++ (space ∷ []) ++ decimal b ++ (newline ∷ [])) (to (call v kind a b)) (recordBytes (call v kind a b)) []
+      values-go : Goes (scan line false [] (draft 0 First x n q 0 (call v kind 0 0))) (decimal a ++ (space ∷ []) ++ decimal b ++ (newline ∷ [])) (to (call v kind a b)) (recordBytes (call v kind a b)) []
       values-go =
           both
-          (both (both (number-goes line x n q 0 First (call v kind 0 0) a la) (quiet-byte _ _ space first-taken refl refl))
-          (number-goes line x n q 0 Second (call v kind a 0) b lb))
+          (both (both (number-goes a la line x n q 0 First (call v kind 0 0)) (quiet-byte _ _ space first-taken refl refl))
+          (number-goes b lb line x n q 0 Second (call v kind a 0)))
           (made _ (call v kind a b) second-made refl refl)
 
       -- with its name, whatever it is
       named : (name : List ℕ) → plain name ≡ true
-          → step (scan line false (spelt noWord name) (draft 0 Kind x n q 0 (call v 0 0 0))) space ≡ scan line false noWord (draft 0 First x n q 0 (call v kind 0 0))
+          → step (scan line false name (draft 0 Kind x n q 0 (call v 0 0 0))) space ≡ scan line false [] (draft 0 First x n q 0 (call v kind 0 0))
           → Goes from (((decimal v ++ (space ∷ [])) ++ name ++ (space ∷ [])) ++ (decimal a ++ (space ∷ []) ++ decimal b ++ (newline ∷ []))) (to (call v kind a b)) (recordBytes (call v kind a b)) []
       named name p e =
-          both (both (both at-kind (word-goes line x n q 0 Kind (call v 0 0 0) name noWord p)) (quiet-byte _ _ space e refl refl)) values-go
+          both (both (both at-kind (word-goes line x n q 0 Kind (call v 0 0 0) name p)) (quiet-byte _ _ space e refl refl)) values-go
 
-    set-taken : step (scan line false (spelt noWord setWord) (draft 0 Kind x n q 0 (call v 0 0 0))) space ≡ scan line false noWord (draft 0 First x n q 0 (call v 1 0 0))
-    unfolding step stepOn wordEnded tookAt tookKind is codeFrom grown
+    set-taken : step (scan line false setWord (draft 0 Kind x n q 0 (call v 0 0 0))) space ≡ scan line false [] (draft 0 First x n q 0 (call v 1 0 0))
+    unfolding step stepOn wordEnded tookAt tookKind sameBytes empty
     set-taken = refl
 
-    swap-taken : step (scan line false (spelt noWord swapWord) (draft 0 Kind x n q 0 (call v 0 0 0))) space ≡ scan line false noWord (draft 0 First x n q 0 (call v 2 0 0))
-    unfolding step stepOn wordEnded tookAt tookKind is codeFrom grown
+    swap-taken : step (scan line false swapWord (draft 0 Kind x n q 0 (call v 0 0 0))) space ≡ scan line false [] (draft 0 First x n q 0 (call v 2 0 0))
+    unfolding step stepOn wordEnded tookAt tookKind sameBytes empty
     swap-taken = refl
 
     -- the three kinds, as they are printed
@@ -143,7 +142,7 @@ module _ (line x n q : ℕ) (h : q < callLimit) (k : n ≤ stationLimit) (c₀ :
   same-call s k a b k′ a′ b′ e f g = rw (e, f, g)
 
   line-goes : (c : CallRecord) → GoodCall n c
-      → Goes (scan line false noWord (draft 0 Call x n q 0 c₀)) (callText c) (scan (cut (line + 1)) false noWord (draft 0 Call x n (q + 1) 0 c)) (recordBytes c) []
+      → Goes (scan line false [] (draft 0 Call x n q 0 c₀)) (callText c) (scan (cut (line + 1)) false [] (draft 0 Call x n (q + 1) 0 c)) (recordBytes c) []
   line-goes c g =
       let P : CallRecord → Type 0 = λ c. Goes from (callText c) (to c) (recordBytes c) [] in
       let v = c .station in
@@ -166,10 +165,10 @@ module _ (line x n q : ℕ) (h : q < callLimit) (k : n ≤ stationLimit) (c₀ :
 
 -- a turn, and what separates it from the next
 module _ (line x n q t : ℕ) (c₀ : CallRecord) (h : t < turnLimit) (k : n ≤ stationLimit) (v : ℕ) (some : 0 < v) (few : v ≤ n) where
-  abbrev turned-to : ℕ → Scan
-  turned-to l = scan l false noWord (draft 0 Turn x n q (t + 1) (call v 0 0 0))
+  abbrev turned-to : ℕ → Scanned
+  turned-to l = scan l false [] (draft 0 Turn x n q (t + 1) (call v 0 0 0))
 
-  turn-made : (s : Scan) (b l : ℕ) → step s b ≡ turned-to l → s .draft .q ≡ q → s .draft .t ≡ t → Goes s (b ∷ []) (turned-to l) [] (v ∷ [])
+  turn-made : (s : Scanned) (b l : ℕ) → step s b ≡ turned-to l → s .draft .q ≡ q → s .draft .t ≡ t → Goes s (b ∷ []) (turned-to l) [] (v ∷ [])
   unfolding turnFrom bytes
   turn-made s b l e f g =
       let y = byte-goes s (turned-to l) b e in
@@ -177,28 +176,28 @@ module _ (line x n q t : ℕ) (c₀ : CallRecord) (h : t < turnLimit) (k : n ≤
       let small : v % 256 ≡ v = mod-eq-of-lt (omega arith) in
       record { ends = y .ends; calls = y .calls ∙ no-call (s .draft .q) (turned-to l .draft) f; turned = y .turned ∙ rw (z, small) }
 
-  by-space : step (scan line false (word noCode v) (draft 0 Turn x n q t c₀)) space ≡ turned-to line
+  by-space : step (scan line false (decimal v) (draft 0 Turn x n q t c₀)) space ≡ turned-to line
   unfolding step stepOn wordEnded tookAt tookTurn
-  by-space = rw (lt-leb turnLimit t h, lt-ltb 0 v some, le-leb v n few)
+  by-space = rw (number-there v (omega arith), number-told v (omega arith), lt-leb turnLimit t h, lt-ltb 0 v some, le-leb v n few)
 
-  by-newline : step (scan line false (word noCode v) (draft 0 Turn x n q t c₀)) newline ≡ turned-to (cut (line + 1))
+  by-newline : step (scan line false (decimal v) (draft 0 Turn x n q t c₀)) newline ≡ turned-to (cut (line + 1))
   unfolding step stepOn lineEnded wordEnded tookAt tookTurn endedAt
-  by-newline = rw (lt-leb turnLimit t h, lt-ltb 0 v some, le-leb v n few)
+  by-newline = rw (number-there v (omega arith), number-told v (omega arith), lt-leb turnLimit t h, lt-ltb 0 v some, le-leb v n few)
 
   turn-goes : (b : Bool)
-      → Goes (scan line false noWord (draft 0 Turn x n q t c₀)) (decimal v ++ (cond b newline space ∷ []))
-      (scan (cond b (cut (line + 1)) line) false noWord (draft 0 Turn x n q (t + 1) (call v 0 0 0))) [] (v ∷ [])
-  turn-goes true = both (number-goes line x n q t Turn c₀ v (omega arith)) (turn-made _ newline (cut (line + 1)) by-newline refl refl)
-  turn-goes false = both (number-goes line x n q t Turn c₀ v (omega arith)) (turn-made _ space line by-space refl refl)
+      → Goes (scan line false [] (draft 0 Turn x n q t c₀)) (decimal v ++ (cond b newline space ∷ []))
+      (scan (cond b (cut (line + 1)) line) false [] (draft 0 Turn x n q (t + 1) (call v 0 0 0))) [] (v ∷ [])
+  turn-goes true = both (number-goes v (omega arith) line x n q t Turn c₀) (turn-made _ newline (cut (line + 1)) by-newline refl refl)
+  turn-goes false = both (number-goes v (omega arith) line x n q t Turn c₀) (turn-made _ space line by-space refl refl)
 
 -- `turns` on a line
 module _ (line x n q : ℕ) (c : CallRecord) where
-  turns-line : step (scan line false (spelt noWord turnsWord) (draft 0 Call x n q 0 c)) newline ≡ scan (cut (line + 1)) false noWord (draft 0 Turn x n q 0 c)
-  unfolding step stepOn lineEnded wordEnded tookAt tookStation is codeFrom grown endedAt
+  turns-line : step (scan line false turnsWord (draft 0 Call x n q 0 c)) newline ≡ scan (cut (line + 1)) false [] (draft 0 Turn x n q 0 c)
+  unfolding step stepOn lineEnded wordEnded tookAt tookStation sameBytes empty endedAt
   turns-line = refl
 
-  turns-word : Goes (scan line false noWord (draft 0 Call x n q 0 c)) (turnsWord ++ (newline ∷ [])) (scan (cut (line + 1)) false noWord (draft 0 Turn x n q 0 c)) [] []
-  turns-word = both (word-goes line x n q 0 Call c turnsWord noWord refl) (quiet-byte _ _ newline turns-line refl refl)
+  turns-word : Goes (scan line false [] (draft 0 Call x n q 0 c)) (turnsWord ++ (newline ∷ [])) (scan (cut (line + 1)) false [] (draft 0 Turn x n q 0 c)) [] []
+  turns-word = both (word-goes line x n q 0 Call c turnsWord refl) (quiet-byte _ _ newline turns-line refl refl)
 
 -- what a text tells
 pub record Tells (text : List ℕ) (x n : ℕ) (table turns : List ℕ) : Type 0 where
@@ -210,8 +209,8 @@ pub record Tells (text : List ℕ) (x n : ℕ) (table turns : List ℕ) : Type 0
 
 told-by : (text : List ℕ) (line x n q t : ℕ) (stage : Stage) (c : CallRecord) (table turns : List ℕ)
     → endedAt stage (draft 0 stage x n q t c) ≡ draft 0 stage x n q t c → lackingAt stage ≡ 0
-    → Goes noScan text (scan line false noWord (draft 0 stage x n q t c)) table turns → Tells text x n table turns
-unfolding lineEnded wordEnded tableIn turnsIn
+    → Goes noScan text (scan line false [] (draft 0 stage x n q t c)) table turns → Tells text x n table turns
+unfolding lineEnded wordEnded empty tableIn turnsIn
 told-by text line x n q t stage c table turns e l g =
     let D = draft 0 stage x n q t c in
     let d : lastDraft text ≡ D = ap lineEnded (g .ends) ∙ e in
@@ -238,9 +237,9 @@ module _ (x n : ℕ) (table turns : List ℕ) (h : AllBytes table) (g : GoodRun 
   call-same i l = same-record (callBytes table i) (bytes-part table (12 * i) 12 h) (call-length x n table turns h g i l) (not-bad n (callBytes table i) (g .goodCalls i l) .zero)
 
   calls-go : (i : ℕ) → i ≤ records table
-      → Goes (scan 3 false noWord (draft 0 Call x n 0 0 noCall)) (callsText table i) (scan (lineAt i) false noWord (draft 0 Call x n i 0 (callAt i))) (take (12 * i) table) []
+      → Goes (scan 3 false [] (draft 0 Call x n 0 0 noCall)) (callsText table i) (scan (lineAt i) false [] (draft 0 Call x n i 0 (callAt i))) (take (12 * i) table) []
   unfolding callsText lineAt callAt
-  calls-go zero l = stays (scan 3 false noWord (draft 0 Call x n 0 0 noCall))
+  calls-go zero l = stays (scan 3 false [] (draft 0 Call x n 0 0 noCall))
   calls-go (suc i) l =
       let c = callOf table (suc i) in
       let f = g .calls in
@@ -250,7 +249,7 @@ module _ (x n : ℕ) (table turns : List ℕ) (h : AllBytes table) (g : GoodRun 
       let m : 12 * i + 12 ≡ 12 * suc i = omega arith in
       let t : take (12 * i) table ++ recordBytes c ≡ take (12 * suc i) table =
       ap (λ s. take (12 * i) table ++ s) r ∙ sym (take-add (12 * i) 12 table) ∙ ap (λ k. take k table) m in
-      let G : ℕ → List ℕ → Type 0 = λ k s. Goes (scan 3 false noWord (draft 0 Call x n 0 0 noCall)) (callsText table (suc i)) (scan (lineAt (suc i)) false noWord (draft 0 Call x n k 0 c)) s [] in
+      let G : ℕ → List ℕ → Type 0 = λ k s. Goes (scan 3 false [] (draft 0 Call x n 0 0 noCall)) (callsText table (suc i)) (scan (lineAt (suc i)) false [] (draft 0 Call x n k 0 c)) s [] in
       let y : G (i + 1) (take (12 * i) table ++ recordBytes c) = both (calls-go i (omega arith)) (line-goes (lineAt i) x n i (omega arith) (g .few) (callAt i) c p) in
       subst (λ k. G k (take (12 * suc i) table)) (add-one i) (subst (λ s. G (i + 1) s) t y)
 
@@ -264,14 +263,14 @@ module _ (x n : ℕ) (table turns : List ℕ) (h : AllBytes table) (g : GoodRun 
   turnAt c (suc i) = call (getD turns i 0) 0 0 0
 
   rows-go : (line q : ℕ) (c : CallRecord) (i : ℕ) → i ≤ length turns
-      → Goes (scan line false noWord (draft 0 Turn x n q 0 c)) (rowsText turns i) (scan (lineOf line i) false noWord (draft 0 Turn x n q i (turnAt c i))) [] (take i turns)
+      → Goes (scan line false [] (draft 0 Turn x n q 0 c)) (rowsText turns i) (scan (lineOf line i) false [] (draft 0 Turn x n q i (turnAt c i))) [] (take i turns)
   unfolding rowsText lineOf turnAt
-  rows-go line q c zero l = stays (scan line false noWord (draft 0 Turn x n q 0 c))
+  rows-go line q c zero l = stays (scan line false [] (draft 0 Turn x n q 0 c))
   rows-go line q c (suc i) l =
       let f = g .moves in
       let b = turn-good x n table turns h g i l in
       let v = getD turns i 0 in
-      let G : ℕ → List ℕ → Type 0 = λ k s. Goes (scan line false noWord (draft 0 Turn x n q 0 c)) (rowsText turns (suc i)) (scan (lineOf line (suc i)) false noWord (draft 0 Turn x n q k (call v 0 0 0))) [] s in
+      let G : ℕ → List ℕ → Type 0 = λ k s. Goes (scan line false [] (draft 0 Turn x n q 0 c)) (rowsText turns (suc i)) (scan (lineOf line (suc i)) false [] (draft 0 Turn x n q k (call v 0 0 0))) [] s in
       let y : G (i + 1) (take i turns ++ (v ∷ [])) = both (rows-go line q c i (omega arith)) (turn-goes (lineOf line i) x n q i (turnAt c i) (omega arith) (g .few) v (b .0) (b .1) (rowEnds turns i)) in
       subst (λ k. G k (take (suc i) turns)) (add-one i) (subst (λ s. G (i + 1) s) (sym (take-suc turns i 0 l)) y)
 
@@ -279,8 +278,8 @@ module _ (x n : ℕ) (table turns : List ℕ) (h : AllBytes table) (g : GoodRun 
   abbrev front : List ℕ
   front = headText x n ++ callsText table (records table)
 
-  abbrev at-turns : Scan
-  at-turns = scan (lineAt (records table)) false noWord (draft 0 Call x n (records table) 0 (callAt (records table)))
+  abbrev at-turns : Scanned
+  at-turns = scan (lineAt (records table)) false [] (draft 0 Call x n (records table) 0 (callAt (records table)))
 
   front-goes : Goes noScan front at-turns table []
   front-goes =
@@ -308,7 +307,7 @@ module _ (x n : ℕ) (table turns : List ℕ) (h : AllBytes table) (g : GoodRun 
       let m = length turns in
       let l = cut (lineAt q + 1) in
       let T = front ++ ((turnsWord ++ (newline ∷ [])) ++ rowsText turns m) in
-      let s = scan (lineOf l m) false noWord (draft 0 Turn x n q m (turnAt c m)) in
+      let s = scan (lineOf l m) false [] (draft 0 Turn x n q m (turnAt c m)) in
       let y : Goes noScan T s (table ++ []) (take m turns) = both front-goes (both (turns-word (lineAt q) x n q c) (rows-go l q c m (omega arith))) in
       told-by T (lineOf l m) x n q m Turn (turnAt c m) table turns refl refl
       (subst (λ r. Goes noScan T s r turns) (append-nil table) (subst (λ u. Goes noScan T s (table ++ []) u) (take-length turns) y))

@@ -1,4 +1,5 @@
 pub mod Numbers
+pub mod Codes
 pub mod Scans
 pub mod Fills
 pub mod Records

@@ -8,7 +8,8 @@ use borrow.Author.Tests.{leb-true, ltb-true, eqb-true, eqb-false, not-false}
 use lib.Dec.{leb, ltb, eqb}
 use Rattle.rules.proofs.Facts.{either-way, and-left, and-right, or-none}
 use Rattle.script.specs.Wrote.{lastPlace, cut}
-use Rattle.drafting.specs.Draft.{isLetter, isDigit, noCode, noNumber}
+use Rattle.drafting.specs.Draft.{isDigit, noNumber}
+use Rattle.drafting.specs.Coded.{isLetter, noCode}
 
 -- a number from 1 to n is at most n
 pub within : (x n : ℕ) → (ltb 0 x && leb x n) ≡ true → x ≤ n

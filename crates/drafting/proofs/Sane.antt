@@ -22,13 +22,11 @@ use Rattle.runfile.specs.Reading.{badCallAt, badTurnAt}
 use Rattle.runtext.specs.Letters.{startWord, stationsWord, turnsWord}
 use Rattle.runtext.proofs.Records.{GoodCall}
 use Rattle.runtext.proofs.Runs.{GoodRun}
-use Rattle.drafting.specs.declared.Word.{Word}
 use Rattle.drafting.specs.declared.Stage.{Stage}
 use Rattle.drafting.specs.declared.Stage.the-variants.{Start, StartValue, AfterStart, Stations, Count, AfterCount, Call, Kind, First, Second, AfterCall, Turn}
 use Rattle.drafting.specs.declared.Draft.{Draft}
-use Rattle.drafting.specs.declared.Scan.{Scan}
-use Rattle.drafting.specs.Draft.{draft, refuse, noNumber, is, isValue, isFrom1To, tookStart, tookCount, tookStation, tookKind, tookFirst, tookSecond, tookTurn, tookAt, madeCall, endedAt, callFrom, turnFrom, callMade, turnMade, lackingAt}
-use Rattle.drafting.specs.Scan.{wordEnded, lineEnded, stepOn, step, run, given, isBlank, noScan}
+use Rattle.drafting.specs.Draft.{draft, refuse, noNumber, Said, said, isValue, isFrom1To, tookStart, tookCount, tookStation, tookKind, tookFirst, tookSecond, tookTurn, tookAt, madeCall, endedAt, callFrom, turnFrom, callMade, turnMade, lackingAt}
+use Rattle.drafting.specs.Scan.{Scanned, empty, wordEnded, lineEnded, stepOn, step, run, given, isBlank, noScan}
 use Rattle.drafting.specs.Parse.{lastDraft, lacking, tableIn, turnsIn}
 use Rattle.drafting.proofs.Records.{good-call, call-before, call-last}
 
@@ -108,7 +106,7 @@ module _ (table turns : List ℕ) where
       record { value = v; calls = c .calls; moves = c .moves; fewCalls = c .fewCalls; fewMoves = c .fewMoves; goodCalls = λ i h. absurd (omega arith); goodTurns = λ i h. absurd (omega arith) }
 
 -- a word more
-module _ (d : Draft) (w : Word) (table turns : List ℕ) (c : Common (d .x) (d .n) (d .q) (d .t) table turns) where
+module _ (d : Draft) (w : Said) (table turns : List ℕ) (c : Common (d .x) (d .n) (d .q) (d .t) table turns) where
   abbrev P : Draft → Type 0
   P d′ = (d′ .q ≡ d .q) × Sane d′ table (turns ++ turnMade d d′)
 
@@ -157,34 +155,34 @@ module _ (d : Draft) (w : Word) (table turns : List ℕ) (c : Common (d .x) (d .
 
   took : (stage : Stage) → stage ≡ d .stage → At stage d → P (tookAt stage d w)
   unfolding tookAt tookStart tookCount tookStation tookKind tookFirst tookSecond tookTurn
-  took Start e h = by-cond P (is startWord w) (λ t. same _ refl refl (c, h)) (λ f. stay (rw (← e) h) 1)
+  took Start e h = by-cond P (w .is startWord) (λ t. same _ refl refl (c, h)) (λ f. stay (rw (← e) h) 1)
   took StartValue e h =
       by-cond P (isValue w)
       (λ t. same _ refl refl (any-number table turns (d .x) (w .number) (d .n) (d .n) (d .q) (d .t) (ltb-true (w .number) noNumber t) (h .0) (h .1) c, h))
       (λ f. stay (rw (← e) h) 2)
   took AfterStart e h = stay (rw (← e) h) 3
-  took Stations e h = by-cond P (is stationsWord w) (λ t. same _ refl refl (c, h)) (λ f. stay (rw (← e) h) 4)
+  took Stations e h = by-cond P (w .is stationsWord) (λ t. same _ refl refl (c, h)) (λ f. stay (rw (← e) h) 4)
   took Count e h =
       by-cond P (isFrom1To stationLimit w)
       (λ t. same _ refl refl (any-number table turns (d .x) (d .x) (d .n) (w .number) (d .q) (d .t) (c .value) (h .0) (h .1) c, one-to stationLimit t))
       (λ f. stay (rw (← e) h) 5)
   took AfterCount e h = stay (rw (← e) h) 3
   took Call e h =
-      by-cond P (is turnsWord w) (λ t. same _ refl refl (c, h))
+      by-cond P (w .is turnsWord) (λ t. same _ refl refl (c, h))
       (λ f.
       by-cond P (isFrom1To (d .n) w) (λ t. same _ refl refl (c, ((h, one-to (d .n) t), (refl, (refl, refl)))))
       (λ g. stay (rw (← e) h) 6))
   took Kind e h =
-      by-cond P (is readWord w)
+      by-cond P (w .is readWord)
       (λ t.
       let a = h .1 .1 .0 in
       let b = h .1 .1 .1 in
       let k = h .1 .0 in
       same _ refl refl (c, (h .0 .0, record { some = h .0 .1 .0; few = h .0 .1 .1; kind = omega arith; read = λ z. (a, b); a = omega arith; b = omega arith })))
       (λ f.
-      by-cond P (is setWord w) (λ t. same _ refl refl (c, (h .0, (omega arith, omega arith))))
+      by-cond P (w .is setWord) (λ t. same _ refl refl (c, (h .0, (omega arith, omega arith))))
       (λ g.
-      by-cond P (is swapWord w) (λ t. same _ refl refl (c, (h .0, (omega arith, omega arith))))
+      by-cond P (w .is swapWord) (λ t. same _ refl refl (c, (h .0, (omega arith, omega arith))))
       (λ k. stay (rw (← e) h) 7)))
   took First e h =
       by-cond P (isValue w) (λ t. same _ refl refl (c, (h .0, (h .1 .0, (h .1 .1, ltb-true (w .number) noNumber t)))))
@@ -260,7 +258,7 @@ module _ (d : Draft) (table turns : List ℕ) (c : Common (d .x) (d .n) (d .q) (
   over Turn e h = no-more d refl refl refl (c, rw (← e) h)
 
 -- a byte more
-module _ (s : Scan) (table turns : List ℕ) (y : Sane (s .draft) table turns) where
+module _ (s : Scanned) (table turns : List ℕ) (y : Sane (s .draft) table turns) where
   abbrev d : Draft
   d = s .draft
 
@@ -274,9 +272,9 @@ module _ (s : Scan) (table turns : List ℕ) (y : Sane (s .draft) table turns) w
   word-told : (wordEnded s .q ≡ s .draft .q) × Sane (wordEnded s) table (turns ++ turnMade (s .draft) (wordEnded s))
   unfolding wordEnded
   word-told =
-      by-cond (λ d′. (d′ .q ≡ d .q) × Sane d′ table (turns ++ turnMade d d′)) (eqb (s .word .code) 0)
+      by-cond (λ d′. (d′ .q ≡ d .q) × Sane d′ table (turns ++ turnMade d d′)) (empty (s .word))
       (λ t. (refl, rw (no-turn (d .t) d refl, append-nil) y))
-      (λ f. took d (s .word) table turns (y .0) (d .stage) refl (y .1))
+      (λ f. took d (said (s .word)) table turns (y .0) (d .stage) refl (y .1))
 
   word-over : R (wordEnded s)
   word-over = let w = word-told in rw (no-call (d .q) (wordEnded s) (sym (w .0)), append-nil) (w .1)
@@ -293,7 +291,7 @@ module _ (s : Scan) (table turns : List ℕ) (y : Sane (s .draft) table turns) w
       joined table turns d d₁ d₂ (w .0) (o .0) (o .1 .0) (o .1 .1))
       (λ f. word-over)
 
-  abbrev S : Scan → Type 0
+  abbrev S : Scanned → Type 0
   S s′ = R (s′ .draft)
 
   byte-on : (b : ℕ) → S (stepOn s b)
@@ -307,7 +305,7 @@ module _ (s : Scan) (table turns : List ℕ) (y : Sane (s .draft) table turns) w
   byte-over b = by-cond S (eqb (d .expected) 0) (λ _. byte-on b) (λ _. idle)
 
 -- a text
-all-sane : (text : List ℕ) (s : Scan) (table turns : List ℕ) → Sane (s .draft) table turns
+all-sane : (text : List ℕ) (s : Scanned) (table turns : List ℕ) → Sane (s .draft) table turns
     → Sane (run s text .draft) (table ++ given callMade s text) (turns ++ given turnMade s text)
 unfolding run given
 all-sane [] s table turns y = rw (append-nil table, append-nil turns) y

@@ -6,15 +6,14 @@ use native.Mathlib.Numerals.{add-one}
 use lib.ListN.{length, getD, take}
 use lib.Seq.{take-suc}
 use Rattle.drafting.specs.declared.Draft.{Draft}
-use Rattle.drafting.specs.declared.Scan.{Scan}
-use Rattle.drafting.specs.Scan.{step, run, given}
+use Rattle.drafting.specs.Scan.{Scanned, step, run, given}
 
-pub run-both : (s : Scan) (xs ys : List ℕ) → run s (xs ++ ys) ≡ run (run s xs) ys
+pub run-both : (s : Scanned) (xs ys : List ℕ) → run s (xs ++ ys) ≡ run (run s xs) ys
 unfolding run
 run-both s [] ys = refl
 run-both s (x ∷ xs) ys = run-both (step s x) xs ys
 
-pub given-both : (made : Draft → Draft → List ℕ) (s : Scan) (xs ys : List ℕ)
+pub given-both : (made : Draft → Draft → List ℕ) (s : Scanned) (xs ys : List ℕ)
     → given made s (xs ++ ys) ≡ given made s xs ++ given made (run s xs) ys
 unfolding run given
 given-both made s [] ys = refl
@@ -22,11 +21,11 @@ given-both made s (x ∷ xs) ys =
     ap (λ l. made (s .draft) (step s x .draft) ++ l) (given-both made (step s x) xs ys)
     ∙ sym (append-assoc (made (s .draft) (step s x .draft)) (given made (step s x) xs) (given made (run (step s x) xs) ys))
 
-module _ (s : Scan) (text : List ℕ) (i : ℕ) (h : i < length text) where
-  abbrev before : Scan
+module _ (s : Scanned) (text : List ℕ) (i : ℕ) (h : i < length text) where
+  abbrev before : Scanned
   before = run s (take i text)
 
-  abbrev after : Scan
+  abbrev after : Scanned
   after = step before (getD text i 0)
 
   more : take (i + 1) text ≡ take i text ++ (getD text i 0 ∷ [])

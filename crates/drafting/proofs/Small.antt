@@ -1,6 +1,5 @@
 -- What was expected of a text has a number of at most 10, and its file is no longer than the longest, so a buffer of that length is
 -- enough. Assumes nothing.
-use mathlib.Core.Path.{_≡_, refl, sym}
 use mathlib.Core.List.{List, [], _∷_}
 use Prim.Native.Nat.{ℕ, _≤_}
 use native.Mathlib.Omega.{arith}
@@ -11,13 +10,11 @@ use Rattle.rules.proofs.Facts.{either-way}
 use Rattle.script.specs.Kind.{readWord, setWord, swapWord}
 use Rattle.runfile.specs.Reading.{longest}
 use Rattle.runtext.specs.Letters.{startWord, stationsWord, turnsWord}
-use Rattle.drafting.specs.declared.Word.{Word}
 use Rattle.drafting.specs.declared.Stage.{Stage}
 use Rattle.drafting.specs.declared.Stage.the-variants.{Start, StartValue, AfterStart, Stations, Count, AfterCount, Call, Kind, First, Second, AfterCall, Turn}
 use Rattle.drafting.specs.declared.Draft.{Draft}
-use Rattle.drafting.specs.declared.Scan.{Scan}
-use Rattle.drafting.specs.Draft.{is, isValue, isFrom1To, tookStart, tookCount, tookStation, tookKind, tookFirst, tookSecond, tookTurn, tookAt, madeCall, endedAt, lackingAt}
-use Rattle.drafting.specs.Scan.{noScan, wordEnded, lineEnded, isBlank, stepOn, step, run}
+use Rattle.drafting.specs.Draft.{Said, said, isValue, isFrom1To, tookStart, tookCount, tookStation, tookKind, tookFirst, tookSecond, tookTurn, tookAt, madeCall, endedAt, lackingAt}
+use Rattle.drafting.specs.Scan.{Scanned, noScan, empty, wordEnded, lineEnded, isBlank, stepOn, step, run}
 use Rattle.drafting.specs.Parse.{lastDraft, lacking, lengthIn, parseOf}
 use Rattle.drafting.specs.Promise.{ParseEnough}
 use Rattle.drafting.proofs.Sane.{by-cond, table-fits, turns-fit}
@@ -26,19 +23,19 @@ abbrev Few : Draft → Type 0
 Few d = d .expected ≤ 10
 
 -- a word more
-module _ (d : Draft) (w : Word) (h : Few d) where
+module _ (d : Draft) (w : Said) (h : Few d) where
   took : (stage : Stage) → Few (tookAt stage d w)
   unfolding tookAt tookStart tookCount tookStation tookKind tookFirst tookSecond tookTurn
-  took Start = by-cond Few (is startWord w) (λ _. h) (λ _. omega arith)
+  took Start = by-cond Few (w .is startWord) (λ _. h) (λ _. omega arith)
   took StartValue = by-cond Few (isValue w) (λ _. h) (λ _. omega arith)
   took AfterStart = omega arith
-  took Stations = by-cond Few (is stationsWord w) (λ _. h) (λ _. omega arith)
+  took Stations = by-cond Few (w .is stationsWord) (λ _. h) (λ _. omega arith)
   took Count = by-cond Few (isFrom1To stationLimit w) (λ _. h) (λ _. omega arith)
   took AfterCount = omega arith
-  took Call = by-cond Few (is turnsWord w) (λ _. h) (λ _. by-cond Few (isFrom1To (d .n) w) (λ _. h) (λ _. omega arith))
+  took Call = by-cond Few (w .is turnsWord) (λ _. h) (λ _. by-cond Few (isFrom1To (d .n) w) (λ _. h) (λ _. omega arith))
   took Kind =
-      by-cond Few (is readWord w) (λ _. h)
-      (λ _. by-cond Few (is setWord w) (λ _. h) (λ _. by-cond Few (is swapWord w) (λ _. h) (λ _. omega arith)))
+      by-cond Few (w .is readWord) (λ _. h)
+      (λ _. by-cond Few (w .is setWord) (λ _. h) (λ _. by-cond Few (w .is swapWord) (λ _. h) (λ _. omega arith)))
   took First = by-cond Few (isValue w) (λ _. h) (λ _. omega arith)
   took Second = by-cond Few (isValue w) (λ _. h) (λ _. omega arith)
   took AfterCall = omega arith
@@ -61,16 +58,16 @@ over AfterCall d h = by-cond Few (leb callLimit (d .q)) (λ _. omega arith) (λ 
 over Turn d h = h
 
 -- a byte more, and a text
-module _ (s : Scan) (h : Few (s .draft)) where
+module _ (s : Scanned) (h : Few (s .draft)) where
   word-over : Few (wordEnded s)
   unfolding wordEnded
-  word-over = by-cond Few (eqb (s .word .code) 0) (λ _. h) (λ _. took (s .draft) (s .word) h (s .draft .stage))
+  word-over = by-cond Few (empty (s .word)) (λ _. h) (λ _. took (s .draft) (said (s .word)) h (s .draft .stage))
 
   line-over : Few (lineEnded s)
   unfolding lineEnded
   line-over = by-cond Few (eqb (wordEnded s .expected) 0) (λ _. over (wordEnded s .stage) (wordEnded s) word-over) (λ _. word-over)
 
-  abbrev FewIn : Scan → Type 0
+  abbrev FewIn : Scanned → Type 0
   FewIn s = Few (s .draft)
 
   byte-over : (b : ℕ) → Few (step s b .draft)
@@ -82,7 +79,7 @@ module _ (s : Scan) (h : Few (s .draft)) where
       (λ _. by-cond FewIn (s .comment) (λ _. h) (λ _. by-cond FewIn (eqb b 35) (λ _. word-over) (λ _. by-cond FewIn (isBlank b) (λ _. word-over) (λ _. h)))))
       (λ _. h)
 
-all-few : (text : List ℕ) (s : Scan) → Few (s .draft) → Few (run s text .draft)
+all-few : (text : List ℕ) (s : Scanned) → Few (s .draft) → Few (run s text .draft)
 unfolding run
 all-few [] s h = h
 all-few (b ∷ bs) s h = all-few bs (step s b) (byte-over s h b)

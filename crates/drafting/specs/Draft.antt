@@ -1,5 +1,5 @@
 -- What the words of a text say, one word at a time and one line at a time: docs/RUN-TEXT.md. Assumes nothing.
-use mathlib.Core.Bool.{Bool, cond, _&&_}
+use mathlib.Core.Bool.{Bool, true, false, cond, _&&_}
 use mathlib.Core.List.{List, [], _∷_}
 use Prim.Native.Nat.{ℕ, _+_, _*_, _-_}
 use lib.Dec.{eqb, ltb, leb}
@@ -9,23 +9,14 @@ use Rattle.script.specs.Kind.{readWord, setWord, swapWord}
 use Rattle.runfile.specs.declared.CallRecord.{CallRecord}
 use Rattle.runfile.specs.Layout.{noCall, recordBytes}
 use Rattle.runtext.specs.Letters.{startWord, stationsWord, turnsWord}
-use Rattle.drafting.specs.declared.Word.{Word}
 use Rattle.drafting.specs.declared.Stage.{Stage}
 use Rattle.drafting.specs.declared.Stage.the-variants.{Start, StartValue, AfterStart, Stations, Count, AfterCount, Call, Kind, First, Second, AfterCall, Turn}
 use Rattle.drafting.specs.declared.Draft.{Draft}
 
-abbrev pub word : ℕ → ℕ → Word
-word code number = record { code = code; number = number }
-
-abbrev pub noWord : Word
-noWord = word 0 0
-
--- a word of small letters is a number to the base 32, where a is 1, and any other is no code
-abbrev pub noCode : ℕ
-noCode = 1099511627776
-
-abbrev pub isLetter : ℕ → Bool
-isLetter b = leb 97 b && leb b 122
+-- what a word says: whether it is the one that is spelled so, and its number
+pub record Said : Type 0 where
+  pub is : List ℕ → Bool
+  pub number : ℕ
 
 -- a word of digits is a decimal number, and one that is over 4,294,967,295 or has something else in it is none
 abbrev pub noNumber : ℕ
@@ -34,29 +25,29 @@ noNumber = 4294967296
 abbrev pub isDigit : ℕ → Bool
 isDigit b = leb 48 b && leb b 57
 
-abbrev pub codeMore : ℕ → ℕ → ℕ
-codeMore code b = cond (isLetter b && ltb code noCode) (32 * code + (b - 96)) noCode
-
 abbrev pub numberMore : ℕ → ℕ → ℕ
 numberMore number b = cond (isDigit b && ltb number noNumber) (10 * number + (b - 48)) noNumber
 
--- a byte more of a word
-unfoldable pub grown : Word → ℕ → Word
-grown w b = word (codeMore (w .code) b) (numberMore (w .number) b)
+unfoldable pub numberFrom : ℕ → List ℕ → ℕ
+numberFrom number [] = number
+numberFrom number (b ∷ bs) = numberFrom (numberMore number b) bs
 
-unfoldable pub codeFrom : ℕ → List ℕ → ℕ
-codeFrom code [] = code
-codeFrom code (b ∷ bs) = codeFrom (codeMore code b) bs
+-- two rows of bytes are the same, byte for byte
+unfoldable pub sameBytes : List ℕ → List ℕ → Bool
+sameBytes [] [] = true
+sameBytes [] (y ∷ ys) = false
+sameBytes (x ∷ xs) [] = false
+sameBytes (x ∷ xs) (y ∷ ys) = eqb x y && sameBytes xs ys
 
--- the word is the one that is spelled so
-unfoldable pub is : List ℕ → Word → Bool
-is text w = eqb (w .code) (codeFrom 0 text)
+-- what the bytes of a word say
+abbrev pub said : List ℕ → Said
+said bytes = record { is = λ text. sameBytes bytes text; number = numberFrom 0 bytes }
 
-abbrev pub isValue : Word → Bool
+abbrev pub isValue : Said → Bool
 isValue w = ltb (w .number) noNumber
 
 -- a number from 1 to n
-abbrev pub isFrom1To : ℕ → Word → Bool
+abbrev pub isFrom1To : ℕ → Said → Bool
 isFrom1To n w = ltb 0 (w .number) && leb (w .number) n
 
 abbrev pub draft : ℕ → Stage → ℕ → ℕ → ℕ → ℕ → CallRecord → Draft
@@ -82,44 +73,44 @@ withCall d stage station kind a b =
 abbrev pub keyword : Draft → Bool → Stage → ℕ → Draft
 keyword d b stage expected = cond b (to d stage) (refuse d expected)
 
-unfoldable pub tookStart : Draft → Word → Draft
+unfoldable pub tookStart : Draft → Said → Draft
 tookStart d w = cond (isValue w) (draft (d .expected) AfterStart (w .number) (d .n) (d .q) (d .t) (d .call)) (refuse d 2)
 
-unfoldable pub tookCount : Draft → Word → Draft
+unfoldable pub tookCount : Draft → Said → Draft
 tookCount d w = cond (isFrom1To stationLimit w) (draft (d .expected) AfterCount (d .x) (w .number) (d .q) (d .t) (d .call)) (refuse d 5)
 
 -- the first word of a line: a station, whose call it is, or `turns`
-unfoldable pub tookStation : Draft → Word → Draft
+unfoldable pub tookStation : Draft → Said → Draft
 tookStation d w =
-    cond (is turnsWord w) (to d Turn)
+    cond (w .is turnsWord) (to d Turn)
     (cond (isFrom1To (d .n) w) (withCall d Kind (w .number) 0 0 0) (refuse d 6))
 
-unfoldable pub tookKind : Draft → Word → Draft
+unfoldable pub tookKind : Draft → Said → Draft
 tookKind d w =
-    cond (is readWord w) (to d AfterCall)
-    (cond (is setWord w) (withCall d First (d .call .station) 1 0 0)
-    (cond (is swapWord w) (withCall d First (d .call .station) 2 0 0) (refuse d 7)))
+    cond (w .is readWord) (to d AfterCall)
+    (cond (w .is setWord) (withCall d First (d .call .station) 1 0 0)
+    (cond (w .is swapWord) (withCall d First (d .call .station) 2 0 0) (refuse d 7)))
 
-unfoldable pub tookFirst : Draft → Word → Draft
+unfoldable pub tookFirst : Draft → Said → Draft
 tookFirst d w =
     cond (isValue w) (withCall d Second (d .call .station) (d .call .kind) (w .number) 0) (refuse d 2)
 
-unfoldable pub tookSecond : Draft → Word → Draft
+unfoldable pub tookSecond : Draft → Said → Draft
 tookSecond d w =
     cond (isValue w) (withCall d AfterCall (d .call .station) (d .call .kind) (d .call .a) (w .number)) (refuse d 2)
 
-unfoldable pub tookTurn : Draft → Word → Draft
+unfoldable pub tookTurn : Draft → Said → Draft
 tookTurn d w =
     cond (leb turnLimit (d .t)) (refuse d 10)
     (cond (isFrom1To (d .n) w)
     (draft (d .expected) Turn (d .x) (d .n) (d .q) (d .t + 1) (record { station = w .number; kind = 0; a = 0; b = 0 })) (refuse d 8))
 
 -- a word more
-unfoldable pub tookAt : Stage → Draft → Word → Draft
-tookAt Start d w = keyword d (is startWord w) StartValue 1
+unfoldable pub tookAt : Stage → Draft → Said → Draft
+tookAt Start d w = keyword d (w .is startWord) StartValue 1
 tookAt StartValue d w = tookStart d w
 tookAt AfterStart d w = refuse d 3
-tookAt Stations d w = keyword d (is stationsWord w) Count 4
+tookAt Stations d w = keyword d (w .is stationsWord) Count 4
 tookAt Count d w = tookCount d w
 tookAt AfterCount d w = refuse d 3
 tookAt Call d w = tookStation d w

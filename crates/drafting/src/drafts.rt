@@ -1,5 +1,6 @@
 // What the words of a text say: a draft of the run, one word more at a time.
 ghost use mathlib.Core.Path.{_≡_};
+ghost use Rattle.drafting.specs.Coded.{codeSaid};
 ghost use Rattle.drafting.specs.Draft.{draft, to, refuse, withCall, keyword, tookStart, tookCount, tookStation, tookKind, tookFirst, tookSecond, tookTurn, tookAt, madeCall, endedAt, lackingAt};
 ghost use Rattle.drafting.specs.declared.Stage.the-variants.{First};
 use crate::Draft;
@@ -68,7 +69,7 @@ fn keyword(d: Draft, there: bool, stage: Stage, expected: u32) -> Draft
 }
 
 fn took_start(d: Draft, w: Word) -> Draft
-    ensures { λ r. ⌜ r ≡ tookStart d w ⌝ }
+    ensures { λ r. ⌜ r ≡ tookStart d (codeSaid w) ⌝ }
 {
     let call = d.call;
     if w.number < NO_NUMBER {
@@ -86,7 +87,7 @@ fn took_start(d: Draft, w: Word) -> Draft
 }
 
 fn took_count(d: Draft, w: Word) -> Draft
-    ensures { λ r. ⌜ r ≡ tookCount d w ⌝ }
+    ensures { λ r. ⌜ r ≡ tookCount d (codeSaid w) ⌝ }
 {
     let call = d.call;
     if (0 < w.number) & (w.number <= MOST_STATIONS) {
@@ -104,7 +105,7 @@ fn took_count(d: Draft, w: Word) -> Draft
 }
 
 fn took_station(d: Draft, w: Word) -> Draft
-    ensures { λ r. ⌜ r ≡ tookStation d w ⌝ }
+    ensures { λ r. ⌜ r ≡ tookStation d (codeSaid w) ⌝ }
 {
     if w.code == TURNS {
         return to(d, Stage::Turn);
@@ -135,7 +136,7 @@ fn with_kind(d: Draft, kind: u32) -> Draft
 }
 
 fn took_kind(d: Draft, w: Word) -> Draft
-    ensures { λ r. ⌜ r ≡ tookKind d w ⌝ }
+    ensures { λ r. ⌜ r ≡ tookKind d (codeSaid w) ⌝ }
 {
     if w.code == READ {
         return to(d, Stage::AfterCall);
@@ -150,7 +151,7 @@ fn took_kind(d: Draft, w: Word) -> Draft
 }
 
 fn took_first(d: Draft, w: Word) -> Draft
-    ensures { λ r. ⌜ r ≡ tookFirst d w ⌝ }
+    ensures { λ r. ⌜ r ≡ tookFirst d (codeSaid w) ⌝ }
 {
     let c = d.call;
     if w.number < NO_NUMBER {
@@ -166,7 +167,7 @@ fn took_first(d: Draft, w: Word) -> Draft
 }
 
 fn took_second(d: Draft, w: Word) -> Draft
-    ensures { λ r. ⌜ r ≡ tookSecond d w ⌝ }
+    ensures { λ r. ⌜ r ≡ tookSecond d (codeSaid w) ⌝ }
 {
     let c = d.call;
     if w.number < NO_NUMBER {
@@ -182,7 +183,7 @@ fn took_second(d: Draft, w: Word) -> Draft
 }
 
 fn took_turn(d: Draft, w: Word) -> Draft
-    ensures { λ r. ⌜ r ≡ tookTurn d w ⌝ }
+    ensures { λ r. ⌜ r ≡ tookTurn d (codeSaid w) ⌝ }
 {
     if MOST_TURNS <= d.t {
         return refuse(d, 10);
@@ -209,7 +210,7 @@ fn took_turn(d: Draft, w: Word) -> Draft
 
 // A word more.
 pub(crate) fn took(d: Draft, w: Word) -> Draft
-    ensures { λ r. ⌜ r ≡ tookAt (d .stage) d w ⌝ }
+    ensures { λ r. ⌜ r ≡ tookAt (d .stage) d (codeSaid w) ⌝ }
 {
     let stage = d.stage;
     match stage {

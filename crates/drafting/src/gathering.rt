@@ -5,6 +5,7 @@ ghost use Rattle.script.specs.Wrote.{Wrote};
 ghost use Rattle.runfile.specs.Layout.{recordBytes};
 ghost use Rattle.drafting.specs.Draft.{callFrom, turnFrom, callMade, turnMade};
 ghost use Rattle.drafting.specs.Scan.{noScan, step, run, given};
+ghost use Rattle.drafting.specs.Coded.{codedScan, OfBytes};
 ghost use Rattle.drafting.specs.Gather.{Filled};
 ghost use Rattle.drafting.specs.Parse.{lastDraft, tableIn, turnsIn};
 use crate::Draft;
@@ -76,8 +77,7 @@ fn put_turn(out: &mut [u8], at: usize, t: usize, d: Draft) -> usize
 
 // A byte more of the text.
 fn fed(table: &mut [u8], turns: &mut [u8], p: Place, b: u8) -> Place
-    ensures { λ r. ⌜ r .scan ≡ step (p .scan) b ⌝ }
-    ensures { λ r. ⌜ Filled (now (table .entry)) (now (table .exit)) (p .table) (r .table) (callMade (p .scan .draft) (step (p .scan) b .draft)) (now (turns .entry)) (now (turns .exit)) (p .turns) (r .turns) (turnMade (p .scan .draft) (step (p .scan) b .draft)) ⌝ }
+    ensures { λ r. ⌜ OfBytes (p .scan) (λ t. (r .scan ≡ codedScan (step t b)) × Filled (now (table .entry)) (now (table .exit)) (p .table) (r .table) (callMade (t .draft) (step t b .draft)) (now (turns .entry)) (now (turns .exit)) (p .turns) (r .turns) (turnMade (t .draft) (step t b .draft))) ⌝ }
 {
     let s = p.scan;
     let d = s.draft;
@@ -93,7 +93,7 @@ fn fed(table: &mut [u8], turns: &mut [u8], p: Place, b: u8) -> Place
 }
 
 fn gathered(text: &[u8], table: &mut [u8], turns: &mut [u8]) -> Place
-    ensures { λ r. ⌜ r .scan ≡ run noScan (now (text .entry)) ⌝ }
+    ensures { λ r. ⌜ r .scan ≡ codedScan (run noScan (now (text .entry))) ⌝ }
     ensures { λ r. ⌜ Filled (now (table .entry)) (now (table .exit)) 0 (r .table) (given callMade noScan (now (text .entry))) (now (turns .entry)) (now (turns .exit)) 0 (r .turns) (given turnMade noScan (now (text .entry))) ⌝ }
 {
     let scan = fresh();

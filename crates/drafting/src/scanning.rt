@@ -1,7 +1,10 @@
-// A text byte by byte: where its words and lines end.
+// A text byte by byte: where its words and lines end. A scan keeps its word as two numbers; what is ensured of it is ensured for
+// whatever bytes they are the numbers of.
 ghost use mathlib.Core.Path.{_≡_};
-ghost use Rattle.drafting.specs.Draft.{noWord};
-ghost use Rattle.drafting.specs.Scan.{noScan, scan, wordEnded, lineEnded, nextLine, isBlank, stepOn, step};
+ghost use mathlib.Core.Bool.{false};
+ghost use Rattle.drafting.specs.Draft.{noDraft};
+ghost use Rattle.drafting.specs.Coded.{noWord, codeScan, codedScan, OfBytes};
+ghost use Rattle.drafting.specs.Scan.{wordEnded, lineEnded, nextLine, isBlank, stepOn, step};
 use crate::Draft;
 use crate::Scan;
 use crate::Stage;
@@ -15,7 +18,7 @@ const LAST_LINE: usize = 18446744073709551615;
 
 // Before the first byte.
 pub(crate) fn fresh() -> Scan
-    ensures { λ r. ⌜ r ≡ noScan ⌝ }
+    ensures { λ r. ⌜ r ≡ codeScan 1 false noWord noDraft ⌝ }
 {
     let call = CallRecord {
         station: 0,
@@ -37,7 +40,7 @@ pub(crate) fn fresh() -> Scan
 
 // No word so far.
 fn between(line: usize, comment: bool, draft: Draft) -> Scan
-    ensures { λ r. ⌜ r ≡ scan line comment noWord draft ⌝ }
+    ensures { λ r. ⌜ r ≡ codeScan line comment noWord draft ⌝ }
 {
     let word = Word { code: 0, number: 0 };
     Scan {
@@ -49,7 +52,7 @@ fn between(line: usize, comment: bool, draft: Draft) -> Scan
 }
 
 fn word_ended(s: Scan) -> Draft
-    ensures { λ r. ⌜ r ≡ wordEnded s ⌝ }
+    ensures { λ r. ⌜ OfBytes s (λ t. r ≡ wordEnded t) ⌝ }
 {
     let w = s.word;
     let d = s.draft;
@@ -61,7 +64,7 @@ fn word_ended(s: Scan) -> Draft
 
 // What was said when the line ends here.
 pub(crate) fn line_ended(s: Scan) -> Draft
-    ensures { λ r. ⌜ r ≡ lineEnded s ⌝ }
+    ensures { λ r. ⌜ OfBytes s (λ t. r ≡ lineEnded t) ⌝ }
 {
     let d = word_ended(s);
     if d.expected != 0 {
@@ -86,7 +89,7 @@ fn is_blank(b: u8) -> bool
 }
 
 fn step_on(s: Scan, b: u8) -> Scan
-    ensures { λ r. ⌜ r ≡ stepOn s b ⌝ }
+    ensures { λ r. ⌜ OfBytes s (λ t. r ≡ codedScan (stepOn t b)) ⌝ }
 {
     let d = s.draft;
     let w = s.word;
@@ -114,7 +117,7 @@ fn step_on(s: Scan, b: u8) -> Scan
 
 // A byte more; past a refusal nothing changes.
 pub(crate) fn step(s: Scan, b: u8) -> Scan
-    ensures { λ r. ⌜ r ≡ step s b ⌝ }
+    ensures { λ r. ⌜ OfBytes s (λ t. r ≡ codedScan (step t b)) ⌝ }
 {
     let d = s.draft;
     if d.expected != 0 {

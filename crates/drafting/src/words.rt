@@ -1,6 +1,7 @@
 // The word so far, as a code and as a number, so that it needs no place to be kept.
 ghost use mathlib.Core.Path.{_≡_};
-ghost use Rattle.drafting.specs.Draft.{codeMore, numberMore, grown};
+ghost use Rattle.drafting.specs.Draft.{numberMore};
+ghost use Rattle.drafting.specs.Coded.{codeMore, grown};
 use crate::Word;
 
 const NO_CODE: u64 = 1099511627776;

@@ -2,12 +2,11 @@
 use mathlib.Core.Path.{_≡_, refl, _∙_, sym, ap}
 use mathlib.Core.Bool.{true, false}
 use mathlib.Core.List.{List}
-use Prim.Native.Nat.{ℕ, _^_, _<_, _≤_, min}
+use Prim.Native.Nat.{ℕ, _≤_, min}
 use native.Mathlib.Omega.{arith}
-use borrow.Author.Tests.{eqb-true, eqb-false, eq-eqb, ne-eqb, le-ltb, ltb-false}
+use borrow.Author.Tests.{eqb-true, eqb-false, ne-eqb, le-ltb, ltb-false}
 use lib.Dec.{eqb, ltb}
 use lib.ListN.{length}
-use Rattle.octets.specs.Bytes.{AllBytes}
 use Rattle.rules.specs.Limits.{turnLimit}
 use Rattle.rules.proofs.Facts.{either-way}
 use Rattle.script.specs.Wrote.{Wrote}
@@ -16,7 +15,6 @@ use Rattle.script.proofs.Outputs.{length-refused, text-shown, line-shown, outpu
 use Rattle.runfile.specs.Reading.{readOf}
 use Rattle.runfile.proofs.Bounds.{number-read, k-read}
 use Rattle.runtext.specs.declared.Printed.{Printed}
-use Rattle.runtext.specs.declared.Outcome.{Outcome}
 use Rattle.runtext.specs.Text.{fileText, printOf, printedOn, PrintedTo}
 use Rattle.runtext.specs.Output.{PrintOutput, PrintOutputSettled, PrintOutputWhole}
 use Rattle.runtext.proofs.Prints.{length-file-text}

@@ -5,7 +5,7 @@ use Prim.Native.Nat.{ℕ, _^_, _<_, _≤_, min}
 use native.Mathlib.Omega.{arith}
 use borrow.Author.Tests.{eq-eqb, ne-eqb}
 use lib.ListN.{length, take, drop, length-append}
-use lib.Seq.{sets, take-at}
+use lib.Seq.{take-at}
 use Rattle.octets.proofs.Buffers.{in-front}
 use Rattle.script.specs.Wrote.{Wrote}
 use Rattle.script.specs.Output.{refusedText, outputOf, OutputTo, OutputSettled, OutputWhole}

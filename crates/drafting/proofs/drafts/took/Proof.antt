@@ -1,10 +1,11 @@
 use borrow.Author.Needs.{needs}
-use Rattle.drafting.specs.Draft.{codeFrom, is, tookAt}
+use Rattle.drafting.specs.Draft.{tookAt}
+use Rattle.drafting.specs.Coded.{codeFrom}
 use Rattle.drafting.proofs.drafts.took.Statement.{statement}
 use Rattle.drafting.proofs.drafts.took.Tie as tie
 
 pub took-spec : {M : Type 1} → statement M
-unfolding codeFrom is tookAt
+unfolding codeFrom tookAt
 took-spec =
     tie.close
     (tie.spec

@@ -1,11 +1,12 @@
 use borrow.Author.Needs.{needs}
 use borrow.Author.Tests.{eq-eqb, ne-eqb}
-use Rattle.drafting.specs.Draft.{codeFrom, is, tookKind}
+use Rattle.drafting.specs.Draft.{tookKind}
+use Rattle.drafting.specs.Coded.{codeFrom}
 use Rattle.drafting.proofs.drafts.took_kind.Statement.{statement}
 use Rattle.drafting.proofs.drafts.took_kind.Tie as tie
 
 pub took-kind-spec : {M : Type 1} → statement M
-unfolding codeFrom is tookKind
+unfolding codeFrom tookKind
 took-kind-spec =
     tie.close
     (tie.spec

@@ -1,13 +1,14 @@
 use borrow.Author.Needs.{needs}
 use native.Mathlib.Omega.{arith}
 use borrow.Author.Tests.{eq-eqb, ne-eqb}
-use Rattle.drafting.specs.Draft.{codeFrom, is, tookStation}
+use Rattle.drafting.specs.Draft.{tookStation}
+use Rattle.drafting.specs.Coded.{codeFrom}
 use Rattle.drafting.proofs.Numbers.{within}
 use Rattle.drafting.proofs.drafts.took_station.Statement.{statement}
 use Rattle.drafting.proofs.drafts.took_station.Tie as tie
 
 pub took-station-spec : {M : Type 1} → statement M
-unfolding codeFrom is tookStation
+unfolding codeFrom tookStation
 took-station-spec =
     tie.close
     (tie.spec

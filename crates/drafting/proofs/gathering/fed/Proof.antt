@@ -1,4 +1,6 @@
 use borrow.Author.Needs.{needs}
+use mathlib.Core.Path.{ap}
+use Rattle.drafting.specs.declared.Scan.{Scan}
 use Rattle.drafting.proofs.gathering.fed.Statement.{statement}
 use Rattle.drafting.proofs.gathering.fed.Tie as tie
 
@@ -11,8 +13,11 @@ fed-spec =
     (λ c κs. search needs)
     (λ c. search needs)
     (λ c. search needs)
-    (λ c.
+    (λ c t e.
     let c3 = c .before .before in
     let c2 = c3 .before .before .before .before in
     let c1 = c2 .before .before .before in
-    (c1 .step .ensures, record { calls = rw (← c1 .step .ensures) (c2 .put-call .ensures); turned = rw (← c1 .step .ensures) (c3 .put-turn .ensures) })))
+    let n = c1 .step .ensures t e in
+    let d = ap (λ (s : Scan). s .draft) n in
+    let f = ap (λ (s : Scan). s .draft) e in
+    (n, record { calls = rw (← d, ← f) (c2 .put-call .ensures); turned = rw (← d, ← f) (c3 .put-turn .ensures) })))

@@ -28,7 +28,7 @@ gathered-spec =
     let c3 = c .before .before .before .before in
     let c2 = c3 .before .before .before .before .before in
     let c1 = c2 .before .before .before .before .before in
-    (omega arith, one-more (c1 .args .text .now) (c2 .loop .i) (search needs) (c2 .loop .inv .1) (c3 .fed .ensures .0) (c3 .fed .ensures .1)))
+    (omega arith, one-more (c1 .args .text .now) (c2 .loop .i) (search needs) (c2 .loop .inv .1) (c3 .fed .ensures)))
     (λ c. same-length (c .before .loop .inv .1 .rows .calls))
     (λ c. same-length (c .before .loop .inv .1 .rows .turned))
     (λ c. all-read (c .before .before .before .before .before .before .args .text .now) (c .before .loop .i) (c .loop-test .left) (c .before .loop .inv .1)))

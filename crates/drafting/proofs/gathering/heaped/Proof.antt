@@ -1,6 +1,7 @@
 use borrow.Author.Needs.{needs}
-use mathlib.Core.Path.{_∙_, ap}
-use Rattle.drafting.specs.Scan.{lineEnded}
+use mathlib.Core.Path.{refl, ap}
+use Rattle.drafting.specs.declared.Scan.{Scan}
+use Rattle.drafting.specs.Scan.{noScan, run}
 use Rattle.drafting.proofs.Fills.{last-line}
 use Rattle.drafting.proofs.gathering.heaped.Statement.{statement}
 use Rattle.drafting.proofs.gathering.heaped.Tie as tie
@@ -24,7 +25,8 @@ heaped-spec =
     let p = c2 .gathered in
     let e = p .ensures .0 in
     let t = c1 .args .text .now in
-    let n = c3 .line-ended .ensures in (
-      (ap (λ s. s .line) e, n ∙ ap lineEnded e),
-      last-line t (p .result .scan) e (p .ensures .1) (record { calls = rw (← n) (c4 .put-call .ensures); turned = rw (← n) (c5 .put-turn .ensures) }),
+    let f = ap (λ (s : Scan). s .draft) e in
+    let n = c3 .line-ended .ensures (run noScan t) e in (
+      (ap (λ (s : Scan). s .line) e, n),
+      last-line t (run noScan t) refl (p .ensures .1) (record { calls = rw (← n, ← f) (c4 .put-call .ensures); turned = rw (← n, ← f) (c5 .put-turn .ensures) }),
     )))

@@ -11,6 +11,6 @@ line-ended-spec =
     tie.close
     (tie.spec
     (λ c κs. search needs)
-    (λ c. simp (sym (c .before .before .word-ended .ensures), ne-eqb _ _ (c .if1 .taken)))
+    (λ c t e. simp (sym (c .before .before .word-ended .ensures t e), ne-eqb _ _ (c .if1 .taken)))
     (λ c κs. search needs)
-    (λ c. simp (sym (c .before .before .before .word-ended .ensures), eq-eqb _ _ (c .before .if1 .left), c .ended .ensures)))
+    (λ c t e. simp (sym (c .before .before .before .word-ended .ensures t e), eq-eqb _ _ (c .before .if1 .left), c .ended .ensures)))

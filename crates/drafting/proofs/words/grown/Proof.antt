@@ -1,5 +1,5 @@
 use borrow.Author.Needs.{needs}
-use Rattle.drafting.specs.Draft.{grown}
+use Rattle.drafting.specs.Coded.{grown}
 use Rattle.drafting.proofs.words.grown.Statement.{statement}
 use Rattle.drafting.proofs.words.grown.Tie as tie
 
