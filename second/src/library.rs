@@ -113,10 +113,11 @@ pub struct Library {
 }
 
 impl Library {
-    /// The server, if it is built.
+    /// The server, if it and the library are built.
     pub fn find() -> Option<Library> {
-        let path = top().join("target/rack/serve");
-        let mut command = path.is_file().then(|| started(&path))?;
+        let (path, archive) =
+            (top().join("target/rack/serve"), top().join("target/staticlib/libstepbench.a"));
+        let mut command = (path.is_file() && archive.is_file()).then(|| started(&path))?;
         let mut child = command.stdin(Stdio::piped()).stdout(Stdio::piped()).spawn().ok()?;
         let mut from: BufReader<ChildStdout> = BufReader::new(child.stdout.take()?);
         let answers = Later::start(move |asked: Asked| {
