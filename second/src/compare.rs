@@ -191,7 +191,12 @@ impl Comparison {
 
     /// The lines of counts.
     pub fn lines(&self) -> String {
-        let reports = format!(" report by library {} by process {}\n", self.by_library, self.by_process);
+        let (lent, short) =
+            self.other.library.as_ref().map_or((0, 0), |library| (library.lent, library.short));
+        let reports = format!(
+            " report by library {} by process {}\nlibrary: buffers lent {lent}, of them too short {short}\n",
+            self.by_library, self.by_process,
+        );
         let parts = [self.contention.lines(), self.texts.lines(), self.written.lines()];
         self.counts.line() + &reports + &parts.concat()
     }

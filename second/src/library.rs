@@ -107,31 +107,38 @@ pub struct Library {
     to: Option<ChildStdin>,
     answers: Later<Asked>,
     random: Random,
+    /// Buffers lent, and those of them that were too short.
+    pub lent: u64,
+    pub short: u64,
 }
 
 impl Library {
-    /// The server, if it is built.
+    /// The server, if it and the library are built.
     pub fn find() -> Option<Library> {
-        let path = top().join("target/rack/serve");
-        let mut command = path.is_file().then(|| started(&path))?;
+        let (path, archive) =
+            (top().join("target/rack/serve"), top().join("target/staticlib/libstepbench.a"));
+        let mut command = (path.is_file() && archive.is_file()).then(|| started(&path))?;
         let mut child = command.stdin(Stdio::piped()).stdout(Stdio::piped()).spawn().ok()?;
         let mut from: BufReader<ChildStdout> = BufReader::new(child.stdout.take()?);
         let answers = Later::start(move |asked: Asked| {
             asked.rooms.iter().try_for_each(|&room| asked.check(room, &mut from))
         });
-        Some(Library { to: child.stdin.take(), child, answers, random: Random::new(0) })
+        let to = child.stdin.take();
+        Some(Library { child, to, answers, random: Random::new(0), lent: 0, short: 0 })
     }
 
-    /// A function of one input must give this: with a buffer of just the output's length, with a byte less, and with none,
-    /// some more or what is always enough.
+    /// A function of one input must give this with a buffer of just the output's length; one time in four also with a byte
+    /// less, and with none, some more or what is always enough. What is refused has any of these.
     pub fn ask(&mut self, function: Function, input: &[u8], own: &Answer) -> Result<(), Difference> {
         let (_, _, enough) = function.known();
         let length = own.as_ref().map_or(0, Vec::len);
         let more = length + self.random.between(1, 64);
         let last = self.random.pick(&[0, more, more, more, more, more, more, enough]);
         let rooms = match own {
-            Ok(_) if function != Function::Read => vec![length, length - 1, last],
-            _ => vec![last],
+            Ok(_) if function == Function::Read => vec![0],
+            Ok(_) if self.random.once_in(4) => vec![length, length - 1, last],
+            Ok(_) => vec![length],
+            Err(_) => vec![last],
         };
         self.ask_with(function, input, &[], own, rooms)
     }
@@ -146,6 +153,10 @@ impl Library {
         rooms: Vec<usize>,
     ) -> Result<(), Difference> {
         let asked = Asked { function, first: first.into(), second: second.into(), own: own.clone(), rooms };
+        let length = own.as_ref().map_or(0, Vec::len);
+        let short = |room: &&usize| function != Function::Read && **room < length;
+        self.lent += asked.rooms.len() as u64;
+        self.short += asked.rooms.iter().filter(short).count() as u64;
         let requests: Vec<u8> = asked.rooms.iter().flat_map(|&room| asked.request(room)).collect();
         self.answers.give(asked)?;
         let sent = self.to.as_mut().is_some_and(|to| to.write_all(&requests).is_ok());

@@ -12,6 +12,7 @@ mod decorate;
 mod difference;
 mod fault;
 mod faults;
+mod ill_formed;
 mod later;
 mod library;
 mod machine;
@@ -20,12 +21,14 @@ mod naive;
 mod other;
 mod parse;
 mod probe;
+mod probed;
 mod probes;
 mod random;
 mod report;
 mod run;
 mod runfile;
 mod search;
+mod seen;
 #[cfg(feature = "linked")]
 mod speed;
 #[cfg(test)]
@@ -54,6 +57,7 @@ const HELP: &str = "usage: second report < FILE      the report of a run file
        second faults [RUNS]      the planted faults
        second probe < CASES      a turn of each bench given in numbers (docs/PROBE.md)
        second probes SEED COUNT  cases for it
+       second compare_probes [COUNT]     such cases, against the bench's probe
        second speed [ROUNDS] < FILE      both reports of a file, timed; x86-64 alone, and the library
 ";
 
@@ -79,6 +83,9 @@ fn main() -> ExitCode {
         }
         (["probe"], ..) => say(probe::probe(&all_input()).as_bytes()),
         (["probes", _, _], Some(seed), Some(count)) => say(probes::probes(seed, count).as_bytes()),
+        (["compare_probes"] | ["compare_probes", _], ..) => {
+            number(1, 100_000).map_or_else(|| complain(HELP), compare_probes)
+        }
         #[cfg(feature = "linked")]
         (["speed"] | ["speed", _], Some(rounds), _) => match speed::speed(&input(), rounds as usize) {
             Ok(line) => say((line + "\n").as_bytes()),
@@ -169,6 +176,22 @@ fn compare_all(runs: u64, damaged: u64) -> ExitCode {
     }
     complain(&format!("not all compared; not built: {}\n", missing.join(", ")));
     ExitCode::from(2)
+}
+
+fn compare_probes(count: u64) -> ExitCode {
+    let seen = match probed::compare(count) {
+        None => {
+            complain("nothing compared; not built: target/bin/probe\n");
+            return ExitCode::from(2);
+        }
+        Some(Err(difference)) => return show(&difference),
+        Some(Ok(seen)) => seen,
+    };
+    say(seen.lines().as_bytes());
+    match seen.missed() {
+        missed if missed.is_empty() => ExitCode::SUCCESS,
+        missed => complain(&(missed.join("\n") + "\n")),
+    }
 }
 
 /// Saves the file and both outputs of a difference under target/, and shows it.

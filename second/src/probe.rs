@@ -94,7 +94,13 @@ fn tried(case: &[u32]) -> String {
         Outcome::Refused(number) => format!("refused {number}"),
     };
     let picture = match bench.picture() {
-        Ok(bytes) => bytes.iter().fold("picture ".into(), |text: String, byte| text + &format!("{byte:02x}")),
+        Ok(bytes) => {
+            let mut text = String::from("picture ");
+            for byte in bytes {
+                let _ = write!(text, "{byte:02x}");
+            }
+            text
+        }
         Err(number) => format!("refused {number}"),
     };
     format!("{sound}\n{outcome}\n{}\n{picture}\n", line(&numbers_of(&bench)))
@@ -102,5 +108,9 @@ fn tried(case: &[u32]) -> String {
 
 /// Numbers with one space between them.
 pub fn line(numbers: &[u32]) -> String {
-    numbers.iter().map(u32::to_string).collect::<Vec<_>>().join(" ")
+    let mut text = String::with_capacity(4 * numbers.len());
+    for (at, number) in numbers.iter().enumerate() {
+        let _ = write!(text, "{}{number}", if at == 0 { "" } else { " " });
+    }
+    text
 }

@@ -31,25 +31,36 @@ const ODD_ONES: [u32; 18] = [
     131_072,
 ];
 
-/// So many cases, a line each. Every field of a sound bench is spoiled in turn: all of them in 3,204 cases.
+/// After so many cases a bench that runs on is taken anew.
+pub const ANEW: u64 = 120;
+
+/// So many cases, a line each.
 pub fn probes(seed: u64, count: u64) -> String {
-    let mut text = String::new();
+    cases(seed, 0, count).iter().map(|case| line(case) + "\n").collect()
+}
+
+/// The cases of a seed from a multiple of `ANEW` on. Every field of a sound bench is spoiled in turn, in four ways: all of
+/// them in 12,816 cases.
+pub fn cases(seed: u64, from: u64, to: u64) -> Vec<Vec<u32>> {
     let mut running: Option<Bench> = None;
-    for at in 0..count {
+    let case = |at: u64| {
         let random = &mut Random::new(seed << 32 ^ at);
-        let numbers = match at % 6 {
-            0 | 1 => {
+        match (at % 6, spoils(at)) {
+            (_, Some(field)) => spoiled(random, field, at / 6 / BENCH as u64),
+            (0 | 1, _) => {
                 let bench = sound(random);
                 with_turn(random, &bench)
             }
-            2 | 3 => running_on(random, &mut running, at),
-            4 => spoiled(random, (at / 6) as usize % BENCH),
+            (2 | 3, _) => running_on(random, &mut running, at),
             _ => garbage(random),
-        };
-        text += &line(&numbers);
-        text.push('\n');
-    }
-    text
+        }
+    };
+    (from..to).map(case).collect()
+}
+
+/// The field that this case spoils.
+pub fn spoils(at: u64) -> Option<usize> {
+    (at % 6 == 4).then_some((at / 6) as usize % BENCH)
 }
 
 /// A sound bench, most of whose stations stand somewhere in a call. Its versions, counts and values are
@@ -144,7 +155,7 @@ fn some_turn(random: &mut Random, bench: &Bench) -> (u32, Offer) {
 
 /// The next turn of a bench that is carried from case to case, taken anew now and then.
 fn running_on(random: &mut Random, running: &mut Option<Bench>, at: u64) -> Vec<u32> {
-    let again = at % 120 < 3 || running.is_none();
+    let again = at % ANEW < 3 || running.is_none();
     let mut bench = match running.take() {
         Some(bench) if !again => bench,
         _ if random.once_in(2) => Bench::fresh(random.between(1, 4) as u32, random.pick(&VALUES)),
@@ -163,18 +174,48 @@ fn is_place(field: usize) -> bool {
     field >= STATIONS && (field - STATIONS).is_multiple_of(RECORD)
 }
 
-/// A sound bench with this field changed. A place stays one of the ten.
-fn spoiled(random: &mut Random, field: usize) -> Vec<u32> {
+/// A sound bench with this field changed: by one, to the other side of its limit, to a large number, or to any.
+/// A place stays one of the ten.
+fn spoiled(random: &mut Random, field: usize, way: u64) -> Vec<u32> {
     let bench = sound(random);
     let mut numbers = with_turn(random, &bench);
     let old = numbers[field];
-    numbers[field] = if is_place(field) {
-        random.pick(&PLACES)
-    } else {
-        let other = random.pick(&ODD_ONES);
-        random.pick(&[old.wrapping_add(1), old.wrapping_sub(1), old ^ 1 << 16, other])
+    numbers[field] = match way % 4 {
+        _ if is_place(field) => random.pick(&PLACES),
+        0 => random.pick(&[old.wrapping_add(1), old.wrapping_sub(1)]),
+        1 => other_side(random, &numbers, field),
+        2 => random.pick(&[1 << 31, u32::MAX - 1, u32::MAX, old ^ 1 << 16, old ^ 1 << 31]),
+        _ => random.pick(&ODD_ONES),
     };
     numbers
+}
+
+/// A number at the other side of a field's limit, where it has one.
+fn other_side(random: &mut Random, numbers: &[u32], field: usize) -> u32 {
+    let (n, old) = (numbers[0], numbers[field]);
+    if field >= STATIONS {
+        return match (field - STATIONS) % RECORD {
+            1 => random.pick(&[0, 3]),
+            2 => numbers[field + 1],
+            3 => numbers[field - 1],
+            4 => random.pick(&[old | 1, 4_294_967_293, 4_294_967_294]),
+            5 => random.pick(&[old.wrapping_add(1), old.wrapping_sub(1), 8, 10]),
+            6 => random.pick(&[65_535, 65_536]),
+            8 => n + 1,
+            9 | 10 => random.pick(&[old ^ 1, 65_536]),
+            _ => old ^ 1,
+        };
+    }
+    match field {
+        0 => random.pick(&[0, 33]),
+        1 => old | 1,
+        2 | 3 => u32::MAX,
+        4 => n + 1,
+        5 => 65_536,
+        _ if field % 4 == 3 => 1,
+        _ if field % 4 == 1 => 2,
+        _ => 65_536,
+    }
 }
 
 /// Numbers of any kind; the places are places, for else nothing would be tried.

@@ -2,10 +2,11 @@
 
 use crate::bench::{Bench, Halves, Offer, Outcome, Record};
 use crate::fault;
+use crate::ill_formed;
 use crate::machine::{Answer, Event, Machine, Place};
 use crate::make;
 use crate::probe::{bench_of, line, numbers_of, probe, BENCH};
-use crate::probes::{probes, sound};
+use crate::probes::{cases, probes, sound, spoils, ANEW};
 use crate::random::Random;
 use crate::runfile::{read, Call};
 
@@ -144,6 +145,21 @@ fn cases_as_text() {
     assert_eq!(probe((case.clone() + " 1 0").as_bytes()), told + "case 2: cut\n");
     numbers[BENCH - 12] = 17;
     assert_eq!(probe(line(&numbers).as_bytes()), "case 1: no such place\n");
+}
+
+#[test]
+fn ill_formed_inputs_end_with_a_line_of_each_kind() {
+    let told: Vec<String> = ill_formed::inputs().iter().map(|input| probe(input)).collect();
+    for end in ["case 1: cut", "case 2: cut", "case 1: number expected", "case 1: no such place"] {
+        assert!(told.iter().filter(|told| told.lines().last() == Some(end)).count() > 10, "{end}");
+    }
+}
+
+#[test]
+fn a_batch_is_a_part_of_the_cases() {
+    let all = cases(1, 0, 3 * ANEW);
+    assert_eq!(cases(1, ANEW, 2 * ANEW), all[ANEW as usize..2 * ANEW as usize]);
+    assert_eq!(spoils(4 + 6 * 533), Some(533));
 }
 
 #[test]
