@@ -3,3 +3,4 @@ pub mod Spaced
 pub mod Cases
 pub mod Goes
 pub mod Says
+pub mod Whole

@@ -1,6 +1,6 @@
 // A bench in numbers, one turn of it, and what came of that, docs/PROBE.md. The input is fed in byte by byte.
 // Its modules: numbers (a bench out of a row of numbers), texts (the text of a case), feed (where numbers and cases end).
-ghost use Rattle.probing.specs.Promise.{NumbersSayBenches, FeedingSettled};
+ghost use Rattle.probing.specs.Promise.{NumbersSayBenches, CasesAreRead, FeedingSettled};
 
 mod feed;
 mod numbers;
@@ -33,6 +33,11 @@ pub struct Said {
 // The numbers of a bench say that bench.
 pub fn numbers_say_benches()
     ensures { λ r. ⌜ NumbersSayBenches ⌝ }
+{}
+
+// A case that is written out is read as it was written, wherever it stands.
+pub fn cases_are_read()
+    ensures { λ r. ⌜ CasesAreRead ⌝ }
 {}
 
 // The contracts of feeding allow one answer, one row and one buffer for each input.
