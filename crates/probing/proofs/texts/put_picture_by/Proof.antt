@@ -12,7 +12,7 @@ drawn : (p : tie.After-picture) → p .picture .result .refused ≡ 0
     → Drew (p .before .before .before .before .args .w) (p .picture .result .len) (p .picture .last .1 .0)
 drawn p z =
     let s = p .before .before .before .before in
-    drew (s .args .w) (s .args .page .now) _ (p .picture .result) (p .picture .ensures .0) (p .picture .ensures .1) z
+    drew (s .args .w) (s .args .page .now) _ (p .picture .result) (p .picture .ensures .answered) (p .picture .ensures .left) z
 
 pub put-picture-by-spec : {M : Type 1} → statement M
 put-picture-by-spec =
@@ -25,7 +25,7 @@ put-picture-by-spec =
     (λ c.
     let p = c .before .before .before .before .before .before .before .before .before in
     let s = p .before .before .before .before in
-    rw (picture-refused (s .args .w) (s .args .page .now) _ (p .picture .result) (p .picture .ensures .0) (p .picture .ensures .1) (s .pre) (c .before .before .before .before .if1 .taken)) (c .before .before .put-refused .ensures))
+    rw (picture-refused (s .args .w) (s .args .page .now) _ (p .picture .result) (p .picture .ensures .answered) (p .picture .ensures .left) (s .pre) (c .before .before .before .before .if1 .taken)) (c .before .before .put-refused .ensures))
     (λ c. drawn (c .before .before .before .before .before .before) (c .before .if1 .left) .fits)
     (λ c. simp length-take (omega (arith, drawn (c .before .before .before .before .before .before .before) (c .before .before .if1 .left) .fits)))
     (λ c κs. tt)
@@ -35,4 +35,4 @@ put-picture-by-spec =
     let p = c .before .before .before .before .before .before .before .before .before .before in
     let s = p .before .before .before .before in
     let z = c .before .before .before .before .before .if1 .left in
-    rw (picture-drawn (s .args .w) (s .args .page .now) _ (p .picture .result) (p .picture .ensures .0) (p .picture .ensures .1) (s .pre) z, ← drawn p z .bytes) (c .before .before .put-drawn .ensures)))
+    rw (picture-drawn (s .args .w) (s .args .page .now) _ (p .picture .result) (p .picture .ensures .answered) (p .picture .ensures .left) (s .pre) z, ← drawn p z .bytes) (c .before .before .put-drawn .ensures)))
