@@ -1,4 +1,5 @@
--- What is promised of benches in numbers, that no field is lost or exchanged; and of feeding, that its contract settles all. Assumes nothing.
+-- What is promised of benches in numbers, that no field is lost or exchanged; of the input, that good cases are answered in order; and of feeding, that
+-- its contracts settle all. Assumes nothing.
 use mathlib.Core.Path.{_≡_}
 use mathlib.Core.Bool.{true}
 use mathlib.Core.List.{List, [], _∷_, _++_}
