@@ -1,7 +1,7 @@
 -- The input byte by byte: a byte more where the reading goes on, none where it does not, and the end. Assumes nothing.
-use mathlib.Core.Path.{_≡_, refl, _∙_, sym, ap}
-use mathlib.Core.Bool.{true, false, cond, _&&_}
-use mathlib.Core.List.{List, [], _++_, append-nil}
+use mathlib.Core.Path.{_≡_, _∙_, sym, ap}
+use mathlib.Core.Bool.{true, false, _&&_}
+use mathlib.Core.List.{List, [], append-nil}
 use Prim.Native.Nat.{ℕ, _<_, _≤_}
 use native.Mathlib.Omega.{arith}
 use borrow.Author.Tests.{leb-true, ltb-true}
@@ -14,7 +14,7 @@ use Rattle.probing.specs.declared.Reading.{Reading}
 use Rattle.probing.specs.declared.Probe.{Probe}
 use Rattle.probing.specs.declared.Said.{Said}
 use Rattle.probing.specs.Text.{faultText, cutWords}
-use Rattle.probing.specs.Feed.{caseSize, noNumber, isDigit, step, stored, textAt, nextAt, goesOn, fedProbe, fedRow, fedText, isCut, cutText, closedText, TookUp, FedTo, ClosedTo}
+use Rattle.probing.specs.Feed.{caseSize, noNumber, isDigit, step, stored, nextAt, goesOn, fedProbe, fedRow, fedText, isCut, cutText, closedText, TookUp, FedTo, ClosedTo}
 use Rattle.probing.specs.Promise.{FeedingSettled}
 
 pub digit : (number b : ℕ) → (isDigit b && ltb number noNumber) ≡ true → (48 ≤ b) × ((b ≤ 57) × (number < noNumber))

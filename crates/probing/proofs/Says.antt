@@ -7,11 +7,9 @@ use native.Mathlib.Omega.{arith}
 use native.Mathlib.Nat.{le-of-suc-le-suc, eq-or-lt-of-le, mul-zero, mul-suc, mul-le-mul-left}
 use lib.ListN.{length, getD, take, length-append, List·getD-append}
 use lib.Seq.{getD-append-add, take-suc, take-all}
-use Rattle.card.specs.declared.Halves.{Halves}
 use Rattle.card.specs.Register.{halves}
 use Rattle.method.specs.declared.Place.{Place}
 use Rattle.method.specs.declared.Place.the-variants.{Rest, At11, At12, At13, At14, At15, At16, At18, At19, At20}
-use Rattle.method.specs.declared.Station.{Station}
 use Rattle.method.specs.Record.{num, resting}
 use Rattle.bench.specs.declared.Bench.{Bench}
 use Rattle.bench.specs.Record.{aAt, rAt, stationAt}

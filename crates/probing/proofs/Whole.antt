@@ -1,26 +1,24 @@
 -- A case that is written out is read as it was written: digit by digit, number by number, to its whole row. Assumes nothing.
 use mathlib.Core.Path.{_≡_, refl, _∙_, sym, ap}
-use mathlib.Core.Bool.{Bool, true, false, _&&_, _||_}
+use mathlib.Core.Bool.{Bool, true, false}
 use mathlib.Core.List.{List, [], _∷_, _++_, append-assoc, append-nil}
-use Prim.Native.Nat.{ℕ, zero, suc, _+_, _*_, _-_, _/_, _%_, _<_, _≤_}
+use Prim.Native.Nat.{ℕ, suc, _+_, _*_, _-_, _/_, _%_, _<_, _≤_}
 use native.Mathlib.Omega.{arith}
 use native.Mathlib.Nat.{add-zero}
 use native.Mathlib.Numerals.{add-one}
 use borrow.Author.Tests.{lt-ltb, le-leb, ne-eqb}
-use lib.Dec.{eqb, leb, ltb}
-use lib.ListN.{length, getD, set, drop, drop-of-length-le}
+use lib.ListN.{length, getD, set, drop, drop-of-length-le, replicate, length-replicate}
 use lib.Seq.{sets}
 use Rattle.rules.proofs.Facts.{and-both}
 use Rattle.octets.proofs.Buffers.{in-front}
-use Rattle.script.specs.Quote.{quote}
 use Rattle.script.specs.Decimal.{digit, decimal}
 use Rattle.script.proofs.Decimals.{by-digits}
 use Rattle.probing.specs.declared.Reading.{Reading}
 use Rattle.probing.specs.declared.Probe.{Probe}
 use Rattle.probing.specs.Numbers.{placesTo}
 use Rattle.probing.specs.Text.{newline, spaced, inLine, caseText}
-use Rattle.probing.specs.Feed.{caseSize, reading, noReading, probe, noNumber, isBlank, step, stored, kMore, textAt, nextAt, goesOn, fedProbe, fedRow, fedText, outputFrom}
-use Rattle.probing.specs.Promise.{CasesAreRead}
+use Rattle.probing.specs.Feed.{caseSize, reading, noReading, probe, noNumber, isBlank, step, stored, kMore, textAt, nextAt, goesOn, fedProbe, fedRow, fedText, closedText, outputFrom, outputOf}
+use Rattle.probing.specs.Promise.{GoodCase, AllGood, input, answers, CasesAreRead}
 
 -- from one state to another, over a text, with what is written on the way
 record Goes (p : Probe) (row text said : List ℕ) (p′ : Probe) (row′ : List ℕ) : Type 0 where
@@ -107,10 +105,12 @@ last-below : (v : ℕ) (zs : List ℕ) → v < noNumber → ((i : ℕ) → getD 
 last-below v [] n b = n
 last-below v (z ∷ zs) n b = last-below z zs (b 0) (λ i. b (suc i))
 
-pub cases-are-read : CasesAreRead
-unfolding CasesAreRead
-cases-are-read k row [] rest l m b g = absurd (omega arith)
-cases-are-read k row (x ∷ zs) rest l m b g =
+one-read : (k : ℕ) (row xs rest : List ℕ) → length row ≡ caseSize → GoodCase xs
+    → outputFrom (probe k noReading) row (inLine xs ++ newline ++ rest) ≡ caseText xs ++ outputFrom (probe (kMore k) noReading) xs rest
+one-read k row [] rest l g = let z = g .size in absurd (omega arith)
+one-read k row (x ∷ zs) rest l g =
+    let m : length (x ∷ zs) ≡ caseSize = g .size in
+    let b = g .numbers in
     let e : 0 + length zs ≡ 537 = omega arith in
     let a : length row ≤ caseSize = omega arith in
     let d : drop caseSize row ≡ [] = drop-of-length-le row a in
@@ -121,5 +121,21 @@ cases-are-read k row (x ∷ zs) rest l m b g =
     let s : Goes (probe k noReading) row (inLine (x ∷ zs)) [] (probe k (reading 537 true (lastOf x zs))) (kept row 0 x zs) =
     rw e at (both (number-goes k 0 row (omega arith) x (b 0) false) (numbers-go k 0 x row zs (omega arith) (b 0) (λ i. b (suc i))))
     in
-    let t = last-number k (lastOf x zs) (kept row 0 x zs) (x ∷ zs) (last-below x zs (b 0) (λ i. b (suc i))) c g in
+    let t = last-number k (lastOf x zs) (kept row 0 x zs) (x ∷ zs) (last-below x zs (b 0) (λ i. b (suc i))) c (g .places) in
     both s t .on rest
+
+-- between two cases the input may end
+ends : (k : ℕ) (row : List ℕ) → outputFrom (probe k noReading) row [] ≡ []
+unfolding outputFrom closedText fedText fedProbe step stored textAt nextAt
+ends k row = refl
+
+all-read : (k : ℕ) (row : List ℕ) → length row ≡ caseSize → (cases : List (List ℕ)) → AllGood cases
+    → outputFrom (probe k noReading) row (input cases) ≡ answers cases
+unfolding input answers
+all-read k row l [] g = ends k row
+all-read k row l (xs ∷ cases) g =
+    one-read k row xs (input cases) l (g .0) ∙ ap (λ y. caseText xs ++ y) (all-read (kMore k) xs (g .0 .size) cases (g .1))
+
+pub cases-are-read : CasesAreRead
+unfolding outputOf
+cases-are-read = record { one = one-read; all = λ cases g. all-read 1 (replicate caseSize 0) (length-replicate {A = ℕ} caseSize 0) cases g }

@@ -2,7 +2,6 @@
 ghost use mathlib.Core.Path.{_≡_};
 ghost use Prim.Native.Nat.{_<_};
 ghost use lib.ListN.{set};
-ghost use Rattle.script.specs.Wrote.{Wrote};
 ghost use Rattle.probing.specs.Feed.{caseSize, noReading, probe, noNumber, numberMore, isBlank, goesOn, isCut, step, stored, kMore, TookUp, FedTo, ClosedTo};
 use crate::Probe;
 use crate::Reading;

@@ -1,6 +1,5 @@
 use borrow.Author.Needs.{needs}
 use Rattle.script.proofs.Writes.{andThen}
-use Rattle.probing.specs.Text.{caseText}
 use Rattle.probing.proofs.Cases.{case-written}
 use Rattle.probing.proofs.texts.put_case.Statement.{statement}
 use Rattle.probing.proofs.texts.put_case.Tie as tie

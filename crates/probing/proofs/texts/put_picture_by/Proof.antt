@@ -2,7 +2,6 @@ use borrow.Author.Needs.{needs}
 use mathlib.Core.Path.{_≡_}
 use native.Mathlib.Omega.{arith}
 use lib.ListN.{length-take}
-use Rattle.probing.specs.Text.{pictureText}
 use Rattle.probing.proofs.Cases.{Drew, drew, picture-drawn, picture-refused}
 use Rattle.probing.proofs.texts.put_picture_by.Statement.{statement}
 use Rattle.probing.proofs.texts.put_picture_by.Tie as tie
