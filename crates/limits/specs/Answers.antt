@@ -1,4 +1,4 @@
--- Issue 4, point 4: the answers of a file's run, turn by turn, and that none is a refusal. Assumes nothing.
+-- Document 01, "Run file", "No run can reach refusal 12 or 13": the answers of a file's run, turn by turn, and that none is a refusal. Assumes nothing.
 use mathlib.Core.Path.{_≡_}
 use mathlib.Core.List.{List}
 use Prim.Native.Nat.{ℕ, _<_}
