@@ -2,7 +2,7 @@
 use borrow.Author.Needs.{needs}
 use Prim.Native.Nat.{_*_, _≤_}
 use native.Mathlib.Omega.{arith}
-use mathlib.Core.Path.{_≡_, _∙_, sym, ap}
+use mathlib.Core.Path.{_≡_, _∙_, ap}
 use Rattle.bench.specs.Record.{blank}
 use Rattle.bench.specs.Turn.{freshOf}
 use Rattle.runfile.specs.Layout.{part}
