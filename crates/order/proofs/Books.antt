@@ -2,7 +2,7 @@
 use mathlib.Core.Path.{_≡_, refl, _∙_, sym, ap}
 use mathlib.Core.Bool.{Bool, true, false, cond, not, _&&_}
 use mathlib.Core.List.{List, [], _∷_}
-use Prim.Native.Nat.{ℕ, _+_, _≤_, _<_}
+use Prim.Native.Nat.{ℕ, _+_, _<_}
 use native.Mathlib.Omega.{arith}
 use lib.Dec.{eqb}
 use lib.ListN.{length, getD, set, length-set}
@@ -127,7 +127,7 @@ all-enter-matches now [] m = m
 all-enter-matches now (j ∷ js) m = all-enter-matches now js (enters-matches m now j)
 
 -- one turn for call e on offer: `own` is what a call that goes on has had then
-module _ {b : Book} {g : Journal} (m : Matches b g) (table : List ℕ) (w : Bench) (now e own : ℕ) (u : Turn) (t : 1 ≤ now) (small : e < 1025) where
+module _ {b : Book} {g : Journal} (m : Matches b g) (table : List ℕ) (w : Bench) (now e own : ℕ) (u : Turn) (small : e < 1025) where
   abbrev i : ℕ
   i = u .station
 

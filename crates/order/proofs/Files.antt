@@ -95,7 +95,7 @@ module _ {x n : ℕ} {table : List ℕ} {steps : List Step} {s : Run} {g : Journ
         pins = next-pins a (h .held) (h .pins) free;
         size = same-size (h .held) u ∙ h .size;
         matches =
-            noted-matches (h .matches) table w (s .turns + 1) e (stationAt (turnBy w u .bench) i .own) u (omega arith) small y inside
+            noted-matches (h .matches) table w (s .turns + 1) e (stationAt (turnBy w u .bench) i .own) u small y inside
             (λ q.
             counts (h .held) u i ∙ ap (counted i d u) q ∙ rw (eq-eqb i i refl) (ap (λ k. k + 1) (sym (turn-had (h .held) e u (free (ap operates q))))))
             (λ result took q.

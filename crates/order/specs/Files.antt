@@ -1,7 +1,7 @@
 -- Demand 3 for files: the run of a file that reads well, its calls by their numbers in the table, and the list that the report prints. Assumes nothing.
 use mathlib.Core.Path.{_≡_}
 use mathlib.Core.List.{List, [], _∷_}
-use Prim.Native.Nat.{ℕ, _+_, _≤_}
+use Prim.Native.Nat.{ℕ, _≤_}
 use lib.ListN.{length, getD}
 use Rattle.method.specs.declared.Call.{Call}
 use Rattle.method.specs.Record.{call}

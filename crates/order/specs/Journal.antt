@@ -6,8 +6,7 @@ use lib.Dec.{eqb}
 use lib.ListN.{getD}
 use Rattle.method.specs.declared.Call.{Call}
 use Rattle.method.specs.declared.Answer.{Answer}
-use Rattle.method.specs.declared.Answer.the-variants.{Idle, Going, Ended, Refused}
-use Rattle.method.specs.Record.{atRest, call}
+use Rattle.method.specs.Record.{atRest, call, told}
 use Rattle.method.specs.Update.{upd}
 use Rattle.bench.specs.declared.Bench.{Bench}
 use Rattle.bench.specs.Record.{stationAt}
@@ -128,12 +127,11 @@ entered w turn c u x g =
     let i = u .station in
     allEnter turn (pointsIn w i x) (acts (atRest (stationAt w i .place)) turn c i (call (u .kind) (u .a) (u .b)) g)
 
--- one turn, by its answer: w is the bench before it, and c the number of the call on offer. An idle or refused turn changes nothing
+-- one turn, by what its answer tells: w is the bench before it, and c the number of the call on offer. An idle or refused turn changes nothing
 unfoldable pub logged : Bench → ℕ → ℕ → Turn → Answer → Journal → Journal
-logged w turn c u Idle g = g
-logged w turn c u Going g = entered w turn c u Going g
-logged w turn c u (Ended result own) g = ends turn (u .station) result (entered w turn c u (Ended result own) g)
-logged w turn c u (Refused number) g = g
+logged w turn c u x g =
+    cond (eqb (told x .case) 1) (entered w turn c u x g)
+    (cond (eqb (told x .case) 2) (ends turn (u .station) (told x .result) (entered w turn c u x g)) g)
 
 -- any turns after the first k, with any offers: a call is numbered by the turn in which it begins
 unfoldable pub journalFrom : ℕ → Bench → Journal → List Turn → Journal

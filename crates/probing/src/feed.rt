@@ -9,18 +9,13 @@ use crate::Said;
 use crate::numbers::places_good;
 use crate::texts::put_case;
 use crate::texts::put_fault;
+use octets::wide;
 
 const CASE_SIZE: usize = 538;
 
 const NO_NUMBER: u64 = 4294967296;
 
 const LAST_CASE: u32 = 4294967295;
-
-fn wide(b: u8) -> u64
-    ensures { λ r. ⌜ r ≡ b ⌝ }
-{
-    b as u64
-}
 
 fn number_more(number: u64, b: u64) -> u64
     ensures { λ r. ⌜ r ≡ numberMore number b ⌝ }
@@ -71,7 +66,7 @@ fn step(row: &mut [u32], s: Reading, b: u8) -> Reading
         return Reading {
             filled,
             word: true,
-            number: number_more(number, wide(b)),
+            number: number_more(number, wide(b) as u64),
         };
     }
     if !s.word {

@@ -14,7 +14,7 @@ use Rattle.card.specs.Word.{revisionA, claimWord}
 use Rattle.method.specs.declared.Place.{Place}
 use Rattle.method.specs.declared.Place.the-variants.{Rest, At11, At12, At13, At14, At15, At16, At18, At19, At20}
 use Rattle.method.specs.declared.Station.{Station}
-use Rattle.method.specs.declared.Answer.the-variants.{Idle, Going, Ended, Refused}
+use Rattle.method.specs.declared.Answer.the-variants.{Idle, Going, Ended}
 use Rattle.method.specs.Record.{atRest, call, station, resting}
 use Rattle.method.specs.Table.{handed, begun, grown, sees, goes, row}
 use Rattle.bench.specs.declared.Bench.{Bench}

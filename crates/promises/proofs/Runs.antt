@@ -7,7 +7,7 @@ use Rattle.card.proofs.Card.{card}
 use Rattle.method.specs.Effect.{losers, points}
 use Rattle.method.specs.Table.{row}
 use Rattle.runfile.specs.First.{firstFrom}
-use Rattle.runfile.specs.Layout.{callOf, fileOf, trailerBytes}
+use Rattle.runfile.specs.Layout.{recordBytes, callOf, fileOf, trailerBytes}
 use Rattle.runfile.specs.Reading.{badCall, firstCall, firstTurn, readOf}
 use Rattle.bench.specs.Sound.{eachEntry, entryKept, sound}
 use Rattle.bench.specs.Turn.{freshOf, turnOf}
@@ -19,5 +19,5 @@ use Rattle.sheet.specs.Report.{reportText}
 use Rattle.promises.specs.Runs.{RunsToCheck}
 
 pub runs-to-check : RunsToCheck
-unfolding bytes spelled decimal digitsIn losers points row firstFrom callOf fileOf trailerBytes badCall firstCall firstTurn readOf eachEntry entryKept sound freshOf turnOf enters allEnter callAfter firstCalls noted runFrom kindWord answerWord lineText linesText lastText sheetText reportText
+unfolding bytes spelled decimal digitsIn losers points row firstFrom recordBytes callOf fileOf trailerBytes badCall firstCall firstTurn readOf eachEntry entryKept sound freshOf turnOf enters allEnter callAfter firstCalls noted runFrom kindWord answerWord lineText linesText lastText sheetText reportText
 runs-to-check = record { good = refl; reports = refl; register = card .r9 }

@@ -2,10 +2,9 @@
 use mathlib.Core.Path.{_≡_}
 use mathlib.Core.List.{List, [], _∷_, _++_, map}
 use Prim.Native.Nat.{ℕ}
-use Rattle.octets.specs.Bytes.{bytes}
 use Rattle.script.specs.Quote.{quote}
 use Rattle.card.specs.Promise.{R9}
-use Rattle.runfile.specs.Layout.{fileOf}
+use Rattle.runfile.specs.Layout.{recordBytes, fileOf}
 use Rattle.runfile.specs.Reading.{readOf}
 use Rattle.sheet.specs.Report.{reportText}
 
@@ -19,7 +18,7 @@ pub record Sample : Type 0 where
 
 -- a call's 12 bytes
 abbrev pub call : ℕ → ℕ → ℕ → ℕ → List ℕ
-call station kind a b = bytes 2 station ++ bytes 1 kind ++ bytes 1 0 ++ bytes 4 a ++ bytes 4 b
+call station kind a b = recordBytes (record { station = station; kind = kind; a = a; b = b })
 
 abbrev pub read : ℕ → List ℕ
 read station = call station 0 0 0

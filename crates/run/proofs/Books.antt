@@ -1,9 +1,8 @@
 -- Changes of the book, one after the other, in the definitions and in the row. Assumes nothing.
 use mathlib.Core.Path.{_≡_, refl, _∙_, sym, ap}
-use mathlib.Core.Bool.{Bool, true, false, cond, not, _&&_}
+use mathlib.Core.Bool.{Bool, true, false, not, _&&_}
 use mathlib.Core.List.{List, [], _∷_, _++_}
 use Prim.Native.Nat.{ℕ, suc, _+_, _<_}
-use native.Mathlib.Numerals.{add-one}
 use lib.Dec.{eqb}
 use lib.ListN.{getD, set, length-set}
 use Rattle.method.specs.declared.Answer.{Answer}
@@ -11,7 +10,7 @@ use Rattle.method.specs.declared.Answer.the-variants.{Idle, Going, Ended, Refus
 use Rattle.run.specs.declared.Tally.{Tally}
 use Rattle.run.specs.declared.Errand.{Errand}
 use Rattle.run.specs.declared.Operation.{Operation}
-use Rattle.run.specs.Book.{Book, acts, enters, allEnter, callEnds, idles, waiters, raisers, actsFor, goesOn, unended}
+use Rattle.run.specs.Book.{Book, acts, enters, allEnter, callEnds, waiters, actsFor, goesOn, unended}
 use Rattle.run.specs.Row.{sizeOf, startOf, partOf, wrote, bookIn, notesBy, onBook, pointed, Fits, Becomes, HasPlaces}
 use Rattle.run.specs.Drive.{oneIdle}
 use Rattle.run.proofs.Written.{written, read}

@@ -32,13 +32,12 @@ use Rattle.bench.specs.Sound.{sound}
 use Rattle.bench.proofs.Sounds.{Stands, facts, ready-at}
 use Rattle.bench.proofs.Bridge.{taken, putBack}
 use Rattle.bench.proofs.Promised.{turn-sound}
-use Rattle.runfile.specs.Layout.{records, callOf}
 use Rattle.run.specs.declared.Tally.{Tally}
 use Rattle.run.specs.declared.Errand.{Errand}
 use Rattle.run.specs.declared.Operation.{Operation}
 use Rattle.run.specs.Calls.{offer, offering, onOffer, callFor, errandOf, operationOf, waits}
 use Rattle.run.specs.Book.{Book, idles, finishes, unended}
-use Rattle.run.specs.Row.{byCall, byStation, sizeOf, startOf, partOf, bookIn, notesIn, Fits, Becomes, HasPlaces}
+use Rattle.run.specs.Row.{byStation, sizeOf, startOf, partOf, bookIn, notesIn, Fits, Becomes, HasPlaces}
 use Rattle.run.specs.Run.{Run, noted, stepRun, runFrom}
 use Rattle.run.specs.Drive.{oneIdle, Good, NotesOf}
 use Rattle.run.proofs.Written.{read}

@@ -1,7 +1,6 @@
 -- Points and the list in the row. Assumes nothing.
 use mathlib.Core.Path.{_≡_, refl, _∙_, sym, ap}
-use mathlib.Core.Bool.{Bool, true, false, cond, not, _&&_}
-use mathlib.Core.List.{List, [], _∷_, _++_}
+use mathlib.Core.List.{List, [], _∷_}
 use Prim.Native.Nat.{ℕ, zero, suc, _+_, _<_, _≤_}
 use native.Mathlib.Omega.{arith}
 use native.Mathlib.Numerals.{add-one}
@@ -12,7 +11,7 @@ use lib.ListN.{length, getD, set, length-set}
 use lib.Seq.{take-suc-set}
 use Rattle.rules.proofs.Facts.{either-way}
 use Rattle.run.specs.declared.Tally.{Tally}
-use Rattle.run.specs.Book.{Book, enters, allEnter, waiters}
+use Rattle.run.specs.Book.{enters}
 use Rattle.run.specs.Row.{byCall, byStation, sizeOf, startOf, partOf, wrote, notesBy, pointed, CallsWithin, Fits, Becomes}
 use Rattle.run.proofs.Written.{written, read, long}
 

@@ -5,7 +5,7 @@ use Prim.Native.Nat.{ℕ, zero, suc, _+_, _-_, _<_, _≤_}
 use native.Mathlib.Omega.{arith}
 use native.Mathlib.Decide.{ℕ-discrete, decLe}
 use borrow.Author.Tests.{eq-eqb, ne-eqb}
-use lib.ListN.{length, getD, set, take, drop, length-take, length-drop}
+use lib.ListN.{length, getD, set, take, drop, length-drop}
 use lib.Seq.{take-set-le, take-set-lt, drop-set-lt, drop-set-add, getD-take, getD-drop, length-take-le}
 use Rattle.runfile.specs.Layout.{part}
 use Rattle.run.specs.Row.{sizeOf, startOf, rowPlaces, partOf, wrote}

@@ -1,10 +1,11 @@
 -- A run: the step table folded over the turns of a file, with the book that is kept of it. Assumes nothing.
+use mathlib.Core.Bool.{cond}
 use mathlib.Core.List.{List, [], _∷_, _++_}
 use Prim.Native.Nat.{ℕ, zero, suc, _+_}
+use lib.Dec.{eqb}
 use lib.ListN.{getD, replicate}
 use Rattle.method.specs.declared.Answer.{Answer}
-use Rattle.method.specs.declared.Answer.the-variants.{Idle, Going, Ended, Refused}
-use Rattle.method.specs.Record.{atRest}
+use Rattle.method.specs.Record.{atRest, told}
 use Rattle.bench.specs.declared.Bench.{Bench}
 use Rattle.bench.specs.Record.{stationAt}
 use Rattle.bench.specs.Turn.{freshOf}
@@ -39,14 +40,16 @@ emptyBook table =
       ended = 0;
     }
 
--- the book after a turn of station i for call c: its answer, the bench before it, the own turns that a call which goes on has had, and the turn's number
+-- the book after the operation of a turn of station i for call c, which has had so many own turns then: the bench before it, the turn's number and its answer
+abbrev pub worked : List ℕ → Bench → ℕ → ℕ → ℕ → ℕ → Answer → Book → Book
+worked table w turn i c own x b = allEnter turn (pointsIn w i x) (acts (atRest (stationAt w i .place)) i c (callAfter table i c) own b)
+
+-- the book after the turn, by what its answer tells: idle, going, ended or refused. `own` is what a call which goes on has had
 unfoldable pub noted : List ℕ → Bench → ℕ → ℕ → ℕ → ℕ → Answer → Book → Book
-noted table w turn i c own Idle b = idles b
-noted table w turn i c own Going b =
-    allEnter turn (pointsIn w i Going) (acts (atRest (stationAt w i .place)) i c (callAfter table i c) own b)
-noted table w turn i c own (Ended result took) b =
-    callEnds turn c result (allEnter turn (pointsIn w i (Ended result took)) (acts (atRest (stationAt w i .place)) i c (callAfter table i c) took b))
-noted table w turn i c own (Refused number) b = b
+noted table w turn i c own x b =
+    cond (eqb (told x .case) 0) (idles b)
+    (cond (eqb (told x .case) 1) (worked table w turn i c own x b)
+    (cond (eqb (told x .case) 2) (callEnds turn c (told x .result) (worked table w turn i c (told x .own) x b)) b))
 
 -- what a turn of station i is given: the station, and its next call where it is at rest
 abbrev pub given : List ℕ → Run → ℕ → Turn

@@ -19,14 +19,9 @@ use crate::parts::LATEST;
 use crate::parts::WAIT;
 use bench::Bench;
 use method::Answer;
+use octets::wide;
 use reach::Reach;
 use reach::reaches;
-
-fn wide(b: u8) -> u32
-    ensures { λ r. ⌜ r ≡ b ⌝ }
-{
-    b as u32
-}
 
 pub(crate) fn drive(mut w: Bench, table: &[u8], turns: &[u8], row: &mut [u32]) -> Drove
     requires { ⌜ Drivable w (now table) (now turns) (now row) ⌝ }

@@ -1,7 +1,7 @@
 // The run of a file that reads well, in a row of zeros that is just long enough. It assumes that the file was read once, since that takes a look at each turn.
 // After the list the row is zero again: what the loop kept for itself is no part of the trace.
 ghost use mathlib.Core.Path.{_≡_};
-ghost use Rattle.runfile.specs.Reading.{readOf, tableOf, turnsOf};
+ghost use Rattle.runfile.specs.Reading.{readOf};
 ghost use Rattle.run.specs.Row.{zeroRow};
 ghost use Rattle.run.specs.Trace.{RanTo};
 use crate::Trace;
@@ -11,33 +11,14 @@ use crate::parts::LIST;
 use crate::zeros::clear;
 use bench::Bench;
 use runfile::ReadAnswer;
-
-// The call table of a file that was read as a.
-fn table_of(file: &[u8], a: ReadAnswer) -> &[u8]
-    requires { ⌜ a ≡ readOf (now file) ⌝ }
-    ensures { λ r. ⌜ now r ≡ tableOf (now (file .entry)) ⌝ }
-{
-    let s = a.start;
-    let e = s + 12 * a.q;
-    &file[s..e]
-}
-
-// Its turns: a part that starts in the file's middle.
-fn turns_of(file: &[u8], a: ReadAnswer) -> &[u8]
-    requires { ⌜ a ≡ readOf (now file) ⌝ }
-    ensures { λ r. ⌜ now r ≡ turnsOf (now (file .entry)) ⌝ }
-{
-    let s = a.middle;
-    let e = s + a.t;
-    &file[s..e]
-}
+use runfile::part;
 
 pub(crate) fn ran(file: &[u8], row: &mut [u32], a: ReadAnswer) -> Trace
     requires { ⌜ (readOf (now file) .refused ≡ 0) × ((now row ≡ zeroRow) × (a ≡ readOf (now file))) ⌝ }
     ensures { λ r. ⌜ RanTo (now (file .entry)) r (now (row .exit)) ⌝ }
 {
-    let table = table_of(file, a);
-    let turns = turns_of(file, a);
+    let table = part(file, a.start, 12 * a.q);
+    let turns = part(file, a.middle, a.t);
     let made = Bench::fresh(a.x, a.n);
     let fresh = made.bench;
     link(table, row);

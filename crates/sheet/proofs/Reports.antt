@@ -2,7 +2,7 @@
 use mathlib.Core.Path.{_≡_, refl, _∙_, sym, ap}
 use mathlib.Core.Bool.{Bool, true, false}
 use mathlib.Core.List.{List, _++_}
-use Prim.Native.Nat.{ℕ, _≤_}
+use Prim.Native.Nat.{ℕ, _*_, _≤_}
 use native.Mathlib.Omega.{arith}
 use borrow.Author.Tests.{eq-eqb, eqb-true, leb-true, leb-false, lt-ltb, le-ltb}
 use lib.Dec.{leb, ltb, eqb}
@@ -11,8 +11,9 @@ use Rattle.octets.specs.Bytes.{AllBytes}
 use Rattle.rules.proofs.Facts.{either-way}
 use Rattle.script.specs.Wrote.{Wrote}
 use Rattle.script.proofs.Writes.{size, in-front}
+use Rattle.runfile.specs.Layout.{part}
 use Rattle.runfile.specs.Reading.{readOf, tableOf}
-use Rattle.runfile.proofs.Answers.{by-answer}
+use Rattle.runfile.proofs.Answers.{by-answer, inside}
 use Rattle.run.specs.declared.Trace.{Trace}
 use Rattle.run.specs.Drive.{runOfFile}
 use Rattle.run.specs.Row.{rowPlaces}
@@ -27,7 +28,7 @@ use Rattle.sheet.proofs.Listing.{same-sheet}
 use Rattle.sheet.proofs.Lengths.{length-report}
 
 -- the call table stands at the front
-pub from-front : (file : List ℕ) → readOf file .start ≡ 0
+from-front : (file : List ℕ) → readOf file .start ≡ 0
 from-front file = by-answer file (λ r. r .start ≡ 0) (λ r k n. refl) (λ g. refl)
 
 -- a sheet that is measured on a buffer of one byte
@@ -75,8 +76,15 @@ module _ (file out row row′ : List ℕ) (t : Trace) (f : length row ≡ rowPla
     unfolding traceOf
     numbers = given ∙ rw (eq-eqb (readOf file .refused) 0 well) refl
 
-    pub calls-read : t .calls ≡ readOf file .q
+    calls-read : t .calls ≡ readOf file .q
     calls-read = ap (λ (t : Trace). t .calls) numbers
+
+    -- so many calls are the file's call table, and in it
+    pub within : 12 * t .calls ≤ length file
+    within = let i = inside file .table in omega (arith, calls-read)
+
+    pub the-table : part file 0 (12 * t .calls) ≡ tableOf file
+    the-table = rw (calls-read, from-front file)
 
     left : row′ ≡ rowOf (runOfFile file .book) ++ drop rowPlaces row
     left = e .left ∙ rw (eq-eqb (t .refused) 0 z) refl

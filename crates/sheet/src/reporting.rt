@@ -3,7 +3,6 @@ ghost use mathlib.Core.Path.{_≡_};
 ghost use Prim.Native.Nat.{_≤_};
 ghost use lib.Dec.{leb};
 ghost use lib.ListN.{length};
-ghost use Rattle.runfile.specs.Reading.{readOf, tableOf};
 ghost use Rattle.run.specs.Row.{rowPlaces};
 ghost use Rattle.run.specs.Trace.{bookOf};
 ghost use Rattle.lines.specs.Lines.{sheetText};
@@ -12,15 +11,7 @@ use crate::Reported;
 use lines::put_sheet;
 use run::PLACES;
 use run::Trace;
-
-// The call table of a file that was read as having so many calls.
-fn table_of(file: &[u8], calls: usize) -> &[u8]
-    requires { ⌜ calls ≡ readOf (now file) .q ⌝ }
-    ensures { λ r. ⌜ now r ≡ tableOf (now (file .entry)) ⌝ }
-{
-    let e = 12 * calls;
-    &file[0..e]
-}
+use runfile::part;
 
 // Whether the sheet has its place: 40,960 bytes are enough, and what is less is held to what the sheet takes on a buffer of one byte.
 fn has_room(room: usize, t: Trace, table: &[u8], row: &[u32]) -> bool
@@ -69,7 +60,7 @@ fn report_by(file: &[u8], row: &mut [u32], out: &mut [u8]) -> Reported
             len: 0,
         };
     }
-    let table = table_of(file, t.calls);
+    let table = part(file, 0, 12 * t.calls);
     laid(out, t, table, row)
 }
 

@@ -8,6 +8,7 @@ use method::Answer;
 use method::Call;
 use method::Place;
 use method::Station;
+use octets::wide;
 
 fn number(x: u32) {
     io::write_all(STDOUT_FILENO, b" ");
@@ -230,14 +231,10 @@ fn row(bytes: &[u8]) {
     let mut i = 0;
     while i < bytes.len() {
         io::write_all(STDOUT_FILENO, b" ");
-        io::print_hex(STDOUT_FILENO, wide(bytes[i]), 2);
+        io::print_hex(STDOUT_FILENO, wide(bytes[i]) as u64, 2);
         i = i + 1;
     }
     end_line();
-}
-
-fn wide(b: u8) -> u64 {
-    b as u64
 }
 
 // A picture of a bench of one station into all but the first and last guard bytes of a buffer.

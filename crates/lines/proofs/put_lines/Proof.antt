@@ -1,7 +1,7 @@
 -- The loop keeps: the lines so far are written.
 use borrow.Author.Needs.{needs}
 use mathlib.Core.Path.{_≡_}
-use Prim.Native.Nat.{_+_, _-_, _≤_}
+use Prim.Native.Nat.{_-_, _≤_}
 use native.Mathlib.Omega.{arith}
 use Rattle.script.specs.Wrote.{Wrote}
 use Rattle.script.proofs.Writes.{still, same-length}

@@ -14,5 +14,5 @@ abbrev μ-loop : tie.MeasureT-loop
 pub row-spec : {M : Type 1} → statement M
 row-spec =
     tie.close
-    (tie.spec Inv-loop μ-loop (λ c. omega arith) (λ c. search needs) (λ c κs. search needs) (λ c. omega arith) (λ c κs. search needs) (λ c κs. search needs)
+    (tie.spec Inv-loop μ-loop (λ c. omega arith) (λ c. search needs) (λ c κs. search needs) (λ c. omega arith) (λ c κs. search needs) (λ c. search needs) (λ c κs. search needs)
     (λ c. omega arith) (λ c. omega arith) (λ c. omega arith) (λ c κs. search needs) (λ c. search needs))

@@ -12,6 +12,7 @@ step-spec =
     tie.close
     (tie.spec (λ c κs. search needs)
     (λ c κs. search needs)
+    (λ c. search needs)
     (λ c κs. search needs)
     (λ c.
     let e = sym (c .before .before .before .is-blank .ensures) ∙ not-true _ (c .before .before .if1 .taken) in

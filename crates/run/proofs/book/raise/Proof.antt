@@ -1,7 +1,6 @@
 -- The loop keeps: those that wait among the stations passed so far are listed.
-use borrow.Author.Needs.{needs}
 use mathlib.Core.Path.{_≡_, _∙_, sym}
-use Prim.Native.Nat.{_+_, _-_, _≤_}
+use Prim.Native.Nat.{_-_, _≤_}
 use native.Mathlib.Omega.{arith}
 use native.Mathlib.Numerals.{add-one}
 use Rattle.run.proofs.Books.{Raised, none-yet, one-waits, one-less, winner-first}
