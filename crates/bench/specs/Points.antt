@@ -1,6 +1,6 @@
 -- Document 01, "Order of effect", on a bench: the stations whose calls have their point in a turn. Book and log both take them from here.
--- A raise names the station of the saved pid and not its call; its call is then that station's latest. From a fresh bench it is also the one that the
--- saved claim was made for, with the version s = saved seq - 2: `EveryRunIsGood` has each point find a call that waits for it. Assumes nothing.
+-- A raise names the station of the saved pid and not its call; its call is then that station's latest. In a run from a fresh bench that station is then past 5 with s two
+-- below the saved seq, in the very call that the saved claim was made for: `WinnersAreNamed`, in `order`. Assumes nothing.
 use mathlib.Core.List.{List}
 use Prim.Native.Nat.{ℕ}
 use Rattle.method.specs.declared.Answer.{Answer}

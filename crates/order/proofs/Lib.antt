@@ -16,3 +16,4 @@ pub mod WaitFree
 pub mod Books
 pub mod Plans
 pub mod Files
+pub mod Winners

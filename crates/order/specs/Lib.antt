@@ -3,6 +3,7 @@ pub mod Accepted
 pub mod Steps
 pub mod Pinned
 pub mod Decided
+pub mod Winners
 pub mod Demand
 pub mod Files
 pub mod Journal

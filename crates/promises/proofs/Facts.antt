@@ -74,26 +74,28 @@ module _ (w : Bench) (u : Turn) (inside : u .station < length (w .stations)) whe
         goes = λ r n. ap (λ (z : Station). z .call) (put v x q) ∙ c;
         others = elsewhere v x q;
         hands = λ r n. absurd (omega arith);
+        atOnce = λ r n. absurd (omega arith);
         ends = λ n. absurd (omega arith);
       }
 
   -- a station at rest whose turn is idle, ends its call at once, or goes past place 5
   idles : Shown w u Rest (turned Idle w)
-  idles = record { begins = λ r n. absurd (omega arith); goes = λ r n. absurd (omega arith); others = λ j ne. refl; hands = λ r n. absurd (omega arith); ends = λ n. absurd (omega arith) }
+  idles = record { begins = λ r n. absurd (omega arith); goes = λ r n. absurd (omega arith); others = λ j ne. refl; hands = λ r n. absurd (omega arith); atOnce = λ r n. absurd (omega arith); ends = λ n. absurd (omega arith) }
 
-  at-once : (r o : ℕ) → t ≡ resting (t .c) → Shown w u Rest (turned (Ended r o) w)
-  at-once r o e = record { begins = λ r n. absurd (omega arith); goes = λ r n. absurd (true≢false r); others = λ j ne. refl; hands = λ r n. absurd (true≢false r); ends = λ n. e }
+  at-once : (r o : ℕ) → t ≡ resting (t .c) → (u .kind ≡ 2 → r ≡ w .v .second) → Shown w u Rest (turned (Ended r o) w)
+  at-once r o e q = record { begins = λ r n. absurd (omega arith); goes = λ r n. absurd (true≢false r); others = λ j ne. refl; hands = λ r n. absurd (true≢false r); atOnce = λ r n s. q s; ends = λ n. e }
 
   from-rest : (none reads other same : Bool) (v y z : ℕ) → not (eqb (w .v .second) (u .a)) ≡ other → t ≡ resting (t .c)
+      → (u .kind ≡ 2 → (v ≡ w .v .second) × ((y ≡ w .v .second) × (z ≡ w .v .second)))
       → Shown w u Rest
       (cond none (turned Idle w)
       (cond reads (turned (Ended v 1) w)
       (cond other (turned (Ended y 1) w) (cond same (turned (Ended z 1) w) (turned Going (putStation i (begun (call (u .kind) (u .a) (u .b)) (w .v .first) (t .c)) w))))))
-  from-rest true reads other same v y z e r = idles
-  from-rest false true other same v y z e r = at-once v 1 r
-  from-rest false false true same v y z e r = at-once y 1 r
-  from-rest false false false true v y z e r = at-once z 1 r
-  from-rest false false false false v y z e r =
+  from-rest true reads other same v y z e r s = idles
+  from-rest false true other same v y z e r s = at-once v 1 r (λ q. s q .0)
+  from-rest false false true same v y z e r s = at-once y 1 r (λ q. s q .1 .0)
+  from-rest false false false true v y z e r s = at-once z 1 r (λ q. s q .1 .1)
+  from-rest false false false false v y z e r s =
       record {
         begins = λ q n. (
           eqb-true (w .v .second) (u .a) (not-false (eqb (w .v .second) (u .a)) e),
@@ -102,6 +104,7 @@ module _ (w : Bench) (u : Turn) (inside : u .station < length (w .stations)) whe
         goes = λ q n. absurd (true≢false q);
         others = elsewhere w (begun (call (u .kind) (u .a) (u .b)) (w .v .first) (t .c)) refl;
         hands = λ q n. absurd (omega arith);
+        atOnce = λ q n. absurd (omega arith);
         ends = λ n. absurd (omega arith);
       }
 
@@ -109,7 +112,7 @@ module _ (w : Bench) (u : Turn) (inside : u .station < length (w .stations)) whe
   unfolding row
   shown Rest r =
       from-rest (eqb (u .kind) 3) (eqb (u .kind) 0) (not (eqb (w .v .second) (u .a))) (eqb (u .a) (u .b)) (w .v .second) (handed (u .kind) 0 (w .v .second))
-      (handed (u .kind) 1 (w .v .second)) refl (r refl)
+      (handed (u .kind) 1 (w .v .second)) refl (r refl) (λ s. (refl, (rw (eq-eqb (u .kind) 2 s), rw (eq-eqb (u .kind) 2 s))))
   shown At11 r = goes-on At11 _ (grown t) refl refl refl
   shown At12 r = goes-on At12 _ (goes t At13) refl refl refl
   shown At13 r = goes-on At13 _ (goes t At14) refl refl refl
@@ -124,6 +127,7 @@ module _ (w : Bench) (u : Turn) (inside : u .station < length (w .stations)) whe
         goes = λ q n. absurd (omega arith);
         others = elsewhere w (resting (t .c)) refl;
         hands = λ q n e. rw (eq-eqb (t .call .kind) 2 e);
+        atOnce = λ q n e. absurd (false≢true q);
         ends = λ n. put w (resting (t .c)) refl;
       }
 
@@ -133,7 +137,7 @@ turn-shown w u l s =
     let t = stationAt w i in
     let f = facts w s in
     by-turn (Shown w u (t .place)) w u
-    (λ number. record { begins = λ r n. absurd (omega arith); goes = λ r n. absurd (omega arith); others = λ j ne. refl; hands = λ r n. absurd (omega arith); ends = λ n. absurd (omega arith) })
+    (λ number. record { begins = λ r n. absurd (omega arith); goes = λ r n. absurd (omega arith); others = λ j ne. refl; hands = λ r n. absurd (omega arith); atOnce = λ r n. absurd (omega arith); ends = λ n. absurd (omega arith) })
     (λ k.
     let h : i < 33 = omega (arith, k .high, f .head .0 .1 .0) in
     shown w u (omega arith) (t .place) (λ e. rests t e (rw e at (f .station i h .stands .rest))))

@@ -15,9 +15,10 @@ use Rattle.run.specs.Book.{enters, allEnter}
 use Rattle.run.specs.Calls.{callAfter}
 use Rattle.run.specs.Run.{firstCalls, noted, runFrom}
 use Rattle.lines.specs.Lines.{answerWord, lineText, linesText, lastText, sheetText}
-use Rattle.sheet.specs.Report.{reportText}
+use Rattle.script.specs.Output.{outputOf}
+use Rattle.sheet.specs.Report.{reportText, reportOf}
 use Rattle.promises.specs.Runs.{RunsToCheck}
 
 pub runs-to-check : RunsToCheck
-unfolding bytes spelled decimal digitsIn losers points row firstFrom recordBytes callOf fileOf trailerBytes badCall firstCall firstTurn readOf eachEntry entryKept sound freshOf turnOf enters allEnter callAfter firstCalls noted runFrom kindWord answerWord lineText linesText lastText sheetText reportText
+unfolding bytes spelled decimal digitsIn losers points row firstFrom recordBytes callOf fileOf trailerBytes badCall firstCall firstTurn readOf eachEntry entryKept sound freshOf turnOf enters allEnter callAfter firstCalls noted runFrom kindWord answerWord lineText linesText lastText sheetText reportText reportOf outputOf
 runs-to-check = record { good = refl; reports = refl; register = card .r9 }

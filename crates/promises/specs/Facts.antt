@@ -25,6 +25,8 @@ pub record Shown (w : Bench) (u : Turn) (p : Place) (x : Turned) : Type 0 where
   -- so a swap that ends at place 20 hands back, with its a, the value that its place 5 read
   pub hands : atRest p ≡ false → told (x .answer) .case ≡ 2 → stationAt w (u .station) .call .kind ≡ 2
       → told (x .answer) .result ≡ stationAt w (u .station) .call .a
+  -- and one that ends at place 5 hands back what it reads there
+  pub atOnce : atRest p ≡ true → told (x .answer) .case ≡ 2 → u .kind ≡ 2 → told (x .answer) .result ≡ w .v .second
   -- a call that ends leaves its station at rest, its record zero in all but c
   pub ends : told (x .answer) .case ≡ 2 → stationAt (x .bench) (u .station) ≡ resting (stationAt w (u .station) .c)
 

@@ -1,4 +1,5 @@
--- Document 01, "Numbered refusals": the lowest number that holds is given, and no refusal where none holds; for each function of the base that refuses. Assumes nothing.
+-- Document 01, "Numbered refusals": the lowest number that holds is given, and no refusal where none holds; for reader, writer, turn, move, fresh bench and picture. Report, trace and
+-- printed text give the reader's and then 14, by their own definitions. Assumes nothing.
 use mathlib.Core.Path.{_≡_}
 use mathlib.Core.Bool.{true}
 use mathlib.Core.List.{List}

@@ -6,7 +6,7 @@ use Rattle.script.specs.Quote.{quote}
 use Rattle.card.specs.Promise.{R9}
 use Rattle.runfile.specs.Layout.{recordBytes, fileOf}
 use Rattle.runfile.specs.Reading.{readOf}
-use Rattle.sheet.specs.Report.{reportText}
+use Rattle.sheet.specs.Output.{reportOutput}
 
 -- a run to check: x, n, the call table, the turns, and the text of its report
 pub record Sample : Type 0 where
@@ -63,8 +63,8 @@ file s = fileOf (s .x) (s .n) (s .table) (s .turns)
 abbrev pub samples : List Sample
 samples = r1 ∷ r2 ∷ r3 ∷ r4 ∷ r5 ∷ r6 ∷ r7 ∷ r8 ∷ []
 
--- of R1 to R8 each file reads well and its report is the text; R9 is on a register
+-- of R1 to R8 each file reads well, and the whole output of the report program, in its buffer of 40,960 bytes, is the text; R9 is on a register
 pub record RunsToCheck : Type 0 where
   pub good : map (λ s. readOf (file s) .refused) samples ≡ map (λ s. 0) samples
-  pub reports : map (λ s. reportText (file s)) samples ≡ map (λ s. s .text) samples
+  pub reports : map (λ s. reportOutput (file s) 40960) samples ≡ map (λ s. s .text) samples
   pub register : R9

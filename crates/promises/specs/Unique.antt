@@ -1,6 +1,7 @@
 -- For each public function whose contract is not one equation: two results that it allows for one input are equal, each lent byte with them.
 -- A contract that is one equation, r ≡ f of the inputs, needs nothing: r ≡ d and s ≡ d give r ≡ s, whatever d is. So with `octets::store`, which answers nothing and whose
--- one equation is of the lent bytes. Those of `script`, `runfile`, `runtext`, `drafting` and `sheet` that have predicates are shown there, beside them. Assumes nothing.
+-- one equation is of the lent bytes. Those of `script` (which are also the contracts of `lines` and
+-- `messages`), `runfile`, `runtext`, `drafting`, `sheet` and `probing` that have predicates are shown there, beside them. Assumes nothing.
 use mathlib.Core.Path.{_≡_}
 use mathlib.Core.List.{List}
 use Prim.Native.Nat.{ℕ}

@@ -5,6 +5,7 @@ ghost use Rattle.bench.specs.Promise.{RefusesExactly, KeptSound, OwnTurnsAreOpe
 ghost use Rattle.order.specs.Demand.{EveryRun, WaitFree};
 ghost use Rattle.order.specs.Decided.{LogDecided};
 ghost use Rattle.order.specs.Files.{EveryFile};
+ghost use Rattle.order.specs.Winners.{WinnersAreNamed};
 ghost use Rattle.promises.specs.Runs.{RunsToCheck};
 ghost use Rattle.promises.specs.Facts.{SoundFacts};
 ghost use Rattle.promises.specs.Refused.{LowestRefusals};
@@ -55,7 +56,12 @@ pub fn the_turns_decide_the_log()
     ensures { λ r. ⌜ LogDecided ⌝ }
 {}
 
-// No call waits for another station: from a fresh bench, a turn of a station in a call does its operation, so that its tenth such turn ends it.
+// Where place 19 raises V.seq, the saved pid's station is past 5 with s two below, in the very call that the saved claim was made for.
+pub fn raises_name_the_winner()
+    ensures { λ r. ⌜ WinnersAreNamed ⌝ }
+{}
+
+// No call waits for another station: from a fresh bench, a turn of a station in a call, with a good offer, does an operation of it.
 pub fn no_call_waits()
     ensures { λ r. ⌜ WaitFree ⌝ }
 {}
