@@ -5,7 +5,7 @@ use Prim.Native.Nat.{ℕ, zero, suc, _+_}
 use lib.Dec.{eqb}
 use lib.ListN.{getD, set}
 use Rattle.method.specs.declared.Answer.{Answer}
-use Rattle.method.specs.declared.Answer.the-variants.{Idle, Going, Ended, Refused}
+use Rattle.method.specs.Record.{told}
 use Rattle.run.specs.declared.Errand.{Errand}
 use Rattle.run.specs.declared.Operation.{Operation}
 use Rattle.run.specs.declared.Finish.{Finish}
@@ -141,9 +141,6 @@ unfoldable pub finishes : Errand → Finish → List ℕ → Book → Book
 finishes e f next b =
     callEnds (e .turn) (e .call) (f .result) (allEnter (e .turn) (cond (e .rests) (e .station ∷ []) []) (actsFor e (f .own) next b))
 
--- after a turn that did not end its call, by its answer
+-- after a turn that did not end its call, by what its answer tells
 unfoldable pub unended : Answer → Errand → Operation → List ℕ → List ℕ → Book → Book
-unended Idle e o next wait b = idles b
-unended Going e o next wait b = goesOn e o next wait b
-unended (Ended result own) e o next wait b = b
-unended (Refused number) e o next wait b = b
+unended x e o next wait b = cond (eqb (told x .case) 0) (idles b) (cond (eqb (told x .case) 1) (goesOn e o next wait b) b)
