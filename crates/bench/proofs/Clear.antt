@@ -85,17 +85,10 @@ refuses-exactly w u =
     refused-or (refusalsOf w u) (exactly (refusalsOf w u) refl) w (rowAt onBench w i t (u .kind) (u .a) (u .b))
     (row-answers (t .place) w i t (u .kind) (u .a) (u .b))
 
--- no refused case has no number of a refusal
-quiet : (x : Answer) → (told x .case ≡ 3 → ⊥) → told x .refusal ≡ 0
-quiet Idle h = refl
-quiet Going h = refl
-quiet (Ended result own) h = refl
-quiet (Refused number) h = absurd (h refl)
-
 -- a turn that no refusal holds of
-pub none-told : (w : Bench) (u : Turn) → refusalOf (refusalsOf w u) ≡ 0 → told (turnBy w u .answer) .refusal ≡ 0
+pub none-told : (w : Bench) (u : Turn) → refusalOf (refusalsOf w u) ≡ 0 → told (turnBy w u .answer) .case ≡ 3 → ⊥
 unfolding RefusesExactly FirstIsGiven
-none-told w u e = quiet (turnBy w u .answer) (refuses-exactly w u .none .1 (exactly (refusalsOf w u) refl .none .0 e))
+none-told w u e = refuses-exactly w u .none .1 (exactly (refusalsOf w u) refl .none .0 e)
 
 -- what is known where no refusal of a turn holds
 pub record Clear (w : Bench) (i kind a b : ℕ) : Type 0 where

@@ -31,7 +31,7 @@ use Rattle.limits.proofs.Files.{x-small}
 
 -- a good turn is refused neither for its station nor for its offer, and a run is too short for 12 and 13
 answered : (w : Bench) (u : Turn) → sound w ≡ true → 1 ≤ u .station → u .station ≤ w .n → badOffer (u .kind) (u .a) (u .b) ≡ false
-    → stationAt w (u .station) .c < countLimit → w .v .first ≤ versionLimit → told (turnBy w u .answer) .refusal ≡ 0
+    → stationAt w (u .station) .c < countLimit → w .v .first ≤ versionLimit → told (turnBy w u .answer) .case ≡ 3 → ⊥
 answered w u s low high offer c v =
     let p = stationAt w (u .station) .place in
     let none : refusalOf (turnRefusals w (u .station) (u .kind) (u .a) (u .b)) ≡ 0 =

@@ -23,4 +23,4 @@ answerAt file k =
 -- of a file of bytes that reads well, no turn is refused: 9 to 13 are not reached
 unfoldable pub NoneRefused : Type 0
 NoneRefused =
-    (file : List ℕ) → AllBytes file → readOf file .refused ≡ 0 → (k : ℕ) → k < length (turnsOf file) → told (answerAt file k) .refusal ≡ 0
+    (file : List ℕ) → AllBytes file → readOf file .refused ≡ 0 → (k : ℕ) → k < length (turnsOf file) → told (answerAt file k) .case ≡ 3 → ⊥

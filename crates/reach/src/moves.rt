@@ -395,7 +395,7 @@ impl Reach {
         }
     }
 
-    // One station's move. Refused 9, and nothing moved, where the station is not one of a sound bench by its numbers; then 11 to 13 as a turn is.
+    // One station's move. Refused 9, and nothing moved, where its numbers could wrap, as those of a sound bench cannot; then 11 to 13 as a turn is.
     pub fn moved(mut self, kind: u32, a: u32, b: u32) -> Moved
         ensures { λ r. ⌜ r ≡ moveOf self kind a b ⌝ }
     {
