@@ -3,8 +3,9 @@
  *     rt staticlib stepbench                          # proves it and writes target/staticlib/libstepbench.a (x86-64 Linux)
  *     gcc -Iinclude YOURS.c target/staticlib/libstepbench.a
  *
- * tools/rack/rack.c uses every function. Each is proved to do, for all inputs, what crates/stepbench/src/lib.rt states
- * in its `ensures`; this header tells the same in words, and is not itself proved.
+ * tools/example/report.c is a short program over it; tools/rack/rack.c tries every function. On a machine that is not
+ * x86-64 tools/x86/cc links and tools/x86/run runs such a program. Each function is proved to do, for all inputs, what
+ * crates/stepbench/src/lib.rt states in its `ensures`; this header tells the same in words, and is not itself proved.
  *
  * Every function
  *   - is total: it takes any bytes of any length, refuses what is wrong with them by number, and ends;
@@ -20,6 +21,9 @@
 
 #include <stddef.h>
 #include <stdint.h>
+
+/* Of this header and the library that belongs to it. It grows when a function is added, its first number when one changes. */
+#define STEPBENCH_VERSION 1001u /* 1.001 */
 
 #ifdef __cplusplus
 extern "C" {
@@ -53,6 +57,18 @@ extern "C" {
 #define STEPBENCH_BAD_CALL 7u
 #define STEPBENCH_BAD_TURN 8u
 #define STEPBENCH_SHORT 14u
+
+/* What stepbench_parse expected where it complains: its N, which are not the refusals above but for 14 (docs/RUN-TEXT.md). */
+#define STEPBENCH_EXPECTED_START 1u
+#define STEPBENCH_EXPECTED_VALUE 2u
+#define STEPBENCH_EXPECTED_END_OF_LINE 3u
+#define STEPBENCH_EXPECTED_STATIONS 4u
+#define STEPBENCH_EXPECTED_NUMBER_OF_STATIONS 5u
+#define STEPBENCH_EXPECTED_STATION_OR_TURNS 6u
+#define STEPBENCH_EXPECTED_KIND 7u
+#define STEPBENCH_EXPECTED_STATION 8u
+#define STEPBENCH_EXPECTED_NO_MORE_CALLS 9u
+#define STEPBENCH_EXPECTED_NO_MORE_TURNS 10u
 
 /* Bytes of `out` that are always enough: with them 14 is never given. */
 #define STEPBENCH_REPORT_ROOM 40960u /* sheet::buffer_is_enough */
