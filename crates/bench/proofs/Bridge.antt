@@ -16,7 +16,7 @@ use Rattle.method.specs.Record.{call, resting}
 use Rattle.method.specs.Table.{handed, begun, row}
 use Rattle.reach.specs.declared.Moved.{Moved}
 use Rattle.reach.specs.declared.Reach.{Reach}
-use Rattle.reach.specs.Step.{countLimit, versionLimit, badOffer, stepOf, stepAt}
+use Rattle.reach.specs.Step.{countLimit, versionLimit, badOffer, stepOf, stepOn}
 use Rattle.reach.specs.Reach.{readyRules, Ready, reaching, reach, moved, onReach, moveOf}
 use Rattle.reach.proofs.Rest.{restInOrder, rest-law}
 use Rattle.bench.specs.declared.Bench.{Bench}
@@ -92,8 +92,8 @@ module _ (w : Bench) (i : ℕ) where
 
   -- a turn of station i that took out the entry k and moved
   pub step-law : (k kind a b : ℕ) (m : Moved) → Ready t → k ≡ reaching (t .place) i t → m ≡ moveOf (taken w i k) kind a b
-      → putBack w i k m ≡ stepAt onBench w i t kind a b
+      → putBack w i k m ≡ stepOn onBench w i t kind a b
   unfolding moveOf stepOf
   step-law k kind a b m h p q =
-      let e : moveOf (taken w i k) kind a b ≡ stepAt onReach (taken w i k) i t kind a b = rw (passed (readyRules t) h) in
-      ap (putBack w i k) (q ∙ e) ∙ ap (λ j. putBack w i j (stepAt onReach (taken w i j) i t kind a b)) p ∙ offered (t .place) kind a b
+      let e : moveOf (taken w i k) kind a b ≡ stepOn onReach (taken w i k) i t kind a b = rw (passed (readyRules t) h) in
+      ap (putBack w i k) (q ∙ e) ∙ ap (λ j. putBack w i j (stepOn onReach (taken w i j) i t kind a b)) p ∙ offered (t .place) kind a b

@@ -29,8 +29,8 @@ turnBy w u = turnOf w (u .station) (u .kind) (u .a) (u .b)
 abbrev pub refusalsOf : Bench → Turn → List Refusal
 refusalsOf w u = turnRefusals w (u .station) (u .kind) (u .a) (u .b)
 
-abbrev pub answerOf : Bench → Turn → Told
-answerOf w u = told (turnBy w u .answer)
+abbrev pub toldOf : Bench → Turn → Told
+toldOf w u = told (turnBy w u .answer)
 
 -- the bench after some turns
 unfoldable pub after : Bench → List Turn → Bench
@@ -60,12 +60,12 @@ operatesOn w u = eqb (refusalOf (refusalsOf w u)) 0 && not (atRest (stationAt w 
 
 -- that is what its answer says, going or ended
 pub record OperationTold (w : Bench) (u : Turn) : Type 0 where
-  pub some : (operatesOn w u ≡ true) ↔ ((answerOf w u .case ≡ 1) ⊎ (answerOf w u .case ≡ 2))
+  pub some : (operatesOn w u ≡ true) ↔ ((toldOf w u .case ≡ 1) ⊎ (toldOf w u .case ≡ 2))
   pub same : operatesOn w u ≡ operates (turnBy w u .answer)
 
 -- the table's operations that station i has done in its call, d before a turn: its own turn that does one is one more, and the call that ends is over
 abbrev pub done : ℕ → ℕ → Bench → Turn → ℕ
-done i d w u = cond (operatesOn w u && eqb i (u .station)) (cond (eqb (answerOf w u .case) 2) 0 (d + 1)) d
+done i d w u = cond (operatesOn w u && eqb i (u .station)) (cond (eqb (toldOf w u .case) 2) 0 (d + 1)) d
 
 unfoldable pub operations : ℕ → ℕ → Bench → List Turn → ℕ
 operations i d w [] = d
@@ -80,9 +80,9 @@ pub record OwnTurns (w : Bench) (us : List Turn) (u : Turn) (d : ℕ) : Type 0 w
   -- own turns count the table's operations that the station did in its call
   pub counts : stationAt (after w us) (u .station) .own ≡ d
   -- a call that ends took 1, 8 or 10, this turn's operation with them
-  pub ended : answerOf (after w us) u .case ≡ 2 → (answerOf (after w us) u .own ≡ d + 1) × FinishingTurns (answerOf (after w us) u .own)
+  pub ended : toldOf (after w us) u .case ≡ 2 → (toldOf (after w us) u .own ≡ d + 1) × FinishingTurns (toldOf (after w us) u .own)
   -- one that goes on has had nine at most: it has ended by its station's tenth turn in it
-  pub going : answerOf (after w us) u .case ≡ 1 → d + 1 ≤ 9
+  pub going : toldOf (after w us) u .case ≡ 1 → d + 1 ≤ 9
 
 -- from any sound bench, over any turns. Its array has 33 stations, as every bench's has
 unfoldable pub OwnTurnsCount : Type 0

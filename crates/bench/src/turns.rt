@@ -5,7 +5,7 @@ ghost use Prim.Native.Nat.{_<_};
 ghost use Rattle.bench.specs.Record.{stationAt, onBench};
 ghost use Rattle.bench.specs.Sound.{sound};
 ghost use Rattle.bench.specs.Turn.{turnOf};
-ghost use Rattle.reach.specs.Step.{stepAt};
+ghost use Rattle.reach.specs.Step.{stepOn};
 use crate::Bench;
 use crate::Turned;
 use method::Answer;
@@ -16,7 +16,7 @@ impl Bench {
     // A turn of a good station on a sound bench. The move refuses what the turn refuses of the offer.
     pub(crate) fn stepped(mut self, i: u32, kind: u32, a: u32, b: u32) -> Turned
         requires { ⌜ (i < 33) × (sound self ≡ true) ⌝ }
-        ensures { λ r. ⌜ r ≡ stepAt onBench self i (stationAt self i) kind a b ⌝ }
+        ensures { λ r. ⌜ r ≡ stepOn onBench self i (stationAt self i) kind a b ⌝ }
     {
         let at = i as usize;
         let t = self.stations[at];

@@ -21,7 +21,7 @@ use Rattle.rules.specs.Limits.{callLimit}
 use Rattle.runfile.specs.Layout.{records}
 use Rattle.run.specs.Calls.{callAfter}
 use Rattle.run.specs.Book.{Book, callBegins, does, acts, enters, allEnter, callEnds, idles}
-use Rattle.run.specs.Row.{byCall, pointed, CallsWithin}
+use Rattle.run.specs.Row.{byCall, pointCount, CallsWithin}
 use Rattle.run.specs.Run.{noted}
 use Rattle.run.proofs.Points.{room, point-more}
 use Rattle.run.proofs.Steps.{mine-after}
@@ -31,7 +31,7 @@ use Rattle.limits.proofs.Elements.{after-set, one-more, chosen}
 -- points up to turn k: as many calls are listed as have one, and call 0, which is none, has none
 pub record PointsWithin (k : ℕ) (point list : List ℕ) : Type 0 where
   pub points : length point ≡ byCall
-  pub listed : length list ≡ pointed point
+  pub listed : length list ≡ pointCount point
   pub none : getD point 0 0 ≡ 0
   pub latest : (c : ℕ) → getD point c 0 ≤ k
   pub calls : CallsWithin list

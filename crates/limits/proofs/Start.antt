@@ -9,7 +9,7 @@ use Rattle.method.specs.Record.{resting}
 use Rattle.bench.specs.Record.{blank}
 use Rattle.rules.specs.Limits.{callLimit}
 use Rattle.runfile.specs.Layout.{records}
-use Rattle.run.specs.Row.{byCall, byStation, pointed, CallsWithin}
+use Rattle.run.specs.Row.{byCall, byStation, pointCount, CallsWithin}
 use Rattle.run.specs.Run.{firstCalls, emptyBook}
 use Rattle.limits.specs.Within.{valueLimit, StationWithin, Within}
 use Rattle.limits.proofs.Elements.{one-more, all-same}
@@ -32,7 +32,7 @@ module _ (table : List ℕ) (few : records table ≤ callLimit) where
   firsts (suc k) j = one-more (λ c. c < byCall) (firstCalls table k) _ 0 (call-after table k 0 few) (firsts k) j
 
   pub empty-within : BookWithin 0 0 (emptyBook table)
-  unfolding pointed
+  unfolding pointCount
   empty-within =
       record {
         upcoming = firsts byStation;

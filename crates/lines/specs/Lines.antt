@@ -20,8 +20,8 @@ newline = quote "\n"
 abbrev pub spaced : List ℕ → List ℕ
 spaced text = text ++ quote " "
 
-abbrev pub field : ℕ → List ℕ
-field x = spaced (decimal x)
+abbrev pub spacedNumber : ℕ → List ℕ
+spacedNumber x = spaced (decimal x)
 
 -- true or false for set, a number for read and swap, `open` if not ended
 unfoldable pub answerWord : Line → List ℕ
@@ -31,7 +31,7 @@ answerWord l =
 -- list place, station, call number in the table, kind, answer, own turns so far, turn of its point
 unfoldable pub lineText : Line → List ℕ
 lineText l =
-    field (l .place) ++ field (l .station) ++ field (l .call) ++ spaced (kindWord (l .kind)) ++ spaced (answerWord l) ++ field (l .own) ++ decimal (l .point)
+    spacedNumber (l .place) ++ spacedNumber (l .station) ++ spacedNumber (l .call) ++ spaced (kindWord (l .kind)) ++ spaced (answerWord l) ++ spacedNumber (l .own) ++ decimal (l .point)
     ++ newline
 
 -- the line of call c at a place of the list, from the call table and the book; a call that has not ended has no last turn
@@ -55,7 +55,7 @@ linesText table b (suc i) = linesText table b i ++ lineText (lineOf table b (suc
 
 -- turns, idle turns, calls begun, calls ended, V.val, V.seq
 unfoldable pub lastText : Trace → List ℕ
-lastText t = field (t .turns) ++ field (t .idle) ++ field (t .begun) ++ field (t .ended) ++ field (t .val) ++ decimal (t .seq) ++ newline
+lastText t = spacedNumber (t .turns) ++ spacedNumber (t .idle) ++ spacedNumber (t .begun) ++ spacedNumber (t .ended) ++ spacedNumber (t .val) ++ decimal (t .seq) ++ newline
 
 unfoldable pub sheetText : Trace → List ℕ → Book → List ℕ
 sheetText t table b = linesText table b (t .listed) ++ lastText t

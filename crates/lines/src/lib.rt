@@ -6,7 +6,7 @@ ghost use Rattle.script.specs.Wrote.{Wrote};
 ghost use Rattle.runfile.specs.Layout.{part};
 ghost use Rattle.run.specs.Row.{byCall, rowPlaces};
 ghost use Rattle.run.specs.Trace.{bookOf};
-ghost use Rattle.lines.specs.Lines.{field, answerWord, lineText, lineOf, linesText, lastText, sheetText};
+ghost use Rattle.lines.specs.Lines.{spacedNumber, answerWord, lineText, lineOf, linesText, lastText, sheetText};
 use run::BY_CALL;
 use run::LAST;
 use run::LIST;
@@ -34,7 +34,7 @@ pub struct Line {
 
 // A number and the space after it.
 fn put_field(out: &mut [u8], at: usize, x: u32) -> usize
-    ensures { λ r. ⌜ Wrote (now (out .entry)) (now (out .exit)) at r (field x) ⌝ }
+    ensures { λ r. ⌜ Wrote (now (out .entry)) (now (out .exit)) at r (spacedNumber x) ⌝ }
 {
     let o = decimal(out, at, x);
     put(out, o, b' ')

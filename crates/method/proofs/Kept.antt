@@ -73,7 +73,7 @@ pub record Stands (n : ℕ) (v : Halves) (p : Claim) (a r : ℕ → Halves) (q :
   pub past : From 20 q (t .s + 2 ≤ v .first)
 
 -- word z, whose registers are v and p: P is at most a version ahead, and names a station in the contest where it is ahead at all
-pub record Holds (w : World) (z : ℕ) (v : Halves) (p : Claim) : Type 0 where
+pub record WordStands (w : World) (z : ℕ) (v : Halves) (p : Claim) : Type 0 where
   pub even : v .first % 2 ≡ 0
   pub low : v .first ≤ p .seq
   pub high : p .seq ≤ v .first + 2
@@ -85,7 +85,7 @@ abbrev pub StandsIn : ℕ → World → Place → ℕ → Station → Type 0
 StandsIn n w q i t = Stands n (w .v (w .word i)) (w .p (w .word i)) (w .a) (w .r) q i t
 
 pub record Kept (n : ℕ) (w : World) : Type 0 where
-  pub words : (z : ℕ) → Holds w z (w .v z) (w .p z)
+  pub words : (z : ℕ) → WordStands w z (w .v z) (w .p z)
   pub stations : (i : ℕ) → StandsIn n w (w .st i .place) i (w .st i)
 
 -- what is known of a station where it stands

@@ -20,7 +20,7 @@ use Rattle.method.specs.Effect.{loses, losers}
 use Rattle.method.specs.Update.{upd}
 use Rattle.method.specs.World.{World, putRegisters, putStation}
 use Rattle.method.specs.OneWord.{answer, left}
-use Rattle.method.specs.Watch.{Begun, Done, Point, Phase, Watcher, pointed}
+use Rattle.method.specs.Watch.{Begun, Done, Point, Phase, Watcher, pointServed}
 use Rattle.method.proofs.Upd.{upd-same, upd-other, upd-all}
 use Rattle.method.proofs.Places.{rest-or-call, from-get}
 use Rattle.method.proofs.Watched.{finds, misses, leads-to, leads-on, leads-point}
@@ -142,7 +142,7 @@ module _ {n : ℕ} {w : World} (k : Kept n w) (j : ℕ) (e : w .st j .place ≡ 
 
   -- the watcher after the winner's point
   abbrev m₁ : Watcher
-  m₁ = pointed win (seen w) (Begun z (x .call))
+  m₁ = pointServed win (seen w) (Begun z (x .call))
 
   -- R has told no other call of the version that it won
   untold : (i : ℕ) → (i ≡ win → ⊥) → w .word i ≡ z → w .st i .s ≡ w .v z .first → truth (w .st i .place) (w .r i) ≡ 0

@@ -12,7 +12,7 @@ use Rattle.method.specs.Record.{num}
 use Rattle.method.specs.World.{World, putRegisters, putStation}
 use Rattle.method.proofs.Upd.{upd-all}
 use Rattle.method.proofs.Places.{at-get, at-map, from-get, from-map, not-behind}
-use Rattle.method.proofs.Kept.{Claimed, Contends, Called, Awaits, Saw, Got, StandsIn, Holds, Kept}
+use Rattle.method.proofs.Kept.{Claimed, Contends, Called, Awaits, Saw, Got, StandsIn, WordStands, Kept}
 use Rattle.method.proofs.Step.{AStep, RStep, VStep, PStep, Step, keeps, grows, wins, raises, opens}
 
 module _ {n : ℕ} {w : World} {v′ : ℕ → Halves} {p′ : ℕ → Claim} {a′ r′ : ℕ → Halves} (k : Kept n w) (s : Step w v′ p′ a′ r′) where
@@ -161,13 +161,13 @@ module _ {n : ℕ} {w : World} {v′ : ℕ → Halves} {p′ : ℕ → Claim} {a
 
   -- word z
   module _ (z : ℕ) where
-    h : Holds w z (w .v z) (w .p z)
+    h : WordStands w z (w .v z) (w .p z)
     h = k .words z
 
     claimed-still : p′ z ≡ w .p z → p′ z .seq % 2 ≡ 0 → 0 < p′ z .seq → Claimed (v′ z) (p′ z) (a′ (p′ z .pid)) (r′ (p′ z .pid)) (p′ z)
     claimed-still e = rw e (λ even some. rw e at (claim-stays z (w .p z) even (h .claimed even some)))
 
-    word-steps : OfV z → OfP z → Holds w′ z (v′ z) (p′ z)
+    word-steps : OfV z → OfP z → WordStands w′ z (v′ z) (p′ z)
     word-steps (raises l e) _ =
         record {
           even = omega (arith, l, h .even);
@@ -208,7 +208,7 @@ module _ {n : ℕ} {w : World} {v′ : ℕ → Halves} {p′ : ℕ → Claim} {a
               };
         })
 
-    word-stays : Holds w′ z (v′ z) (p′ z)
+    word-stays : WordStands w′ z (v′ z) (p′ z)
     word-stays = word-steps (s .v z) (s .p z)
 
   -- station j gets the record t′ besides: it has what t′ asks for, the others keep their own counts, and an open P that names it may go on naming it

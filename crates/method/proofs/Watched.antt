@@ -5,7 +5,7 @@ use Prim.Native.Nat.{ℕ}
 use borrow.Author.Tests.{eq-eqb, ne-eqb}
 use Rattle.method.specs.declared.Call.{Call}
 use Rattle.method.specs.OneWord.{answer, left, Agrees}
-use Rattle.method.specs.Watch.{Free, Begun, Done, Event, Begin, Point, End, Watcher, putPhase, pointed, watch, watched, Waits, Ends, Fits, Good}
+use Rattle.method.specs.Watch.{Free, Begun, Done, Event, Begin, Point, End, Watcher, putPhase, pointServed, watch, watched, Waits, EndFits, EventFits, Good}
 use Rattle.method.proofs.Upd.{upd-same, upd-other, upd-all, upd-id}
 
 -- a set that finds a changes the word to b and is told so; one that does not leaves it
@@ -39,23 +39,23 @@ leads-on (e ∷ xs) ys f g =
 
 -- one event
 pub leads-begin : (m : Watcher) (i z : ℕ) (o : Call) → m .phase i ≡ Free → Leads m (Begin i z o ∷ []) (putPhase i (Begun z o) m)
-unfolding Good Fits watched watch
+unfolding Good EventFits watched watch
 leads-begin m i z o e = record { good = (e, tt); ends = refl }
 
-pub leads-point : (m : Watcher) (i z : ℕ) (o : Call) → m .phase i ≡ Begun z o → Leads m (Point i ∷ []) (pointed i m (Begun z o))
-unfolding Good Fits watched watch
-leads-point m i z o e = record { good = (subst⁻¹ Waits e tt, tt); ends = ap (pointed i m) e }
+pub leads-point : (m : Watcher) (i z : ℕ) (o : Call) → m .phase i ≡ Begun z o → Leads m (Point i ∷ []) (pointServed i m (Begun z o))
+unfolding Good EventFits watched watch
+leads-point m i z o e = record { good = (subst⁻¹ Waits e tt, tt); ends = ap (pointServed i m) e }
 
 pub leads-end : (m : Watcher) (i z : ℕ) (o : Call) (y result : ℕ) → m .phase i ≡ Done z o y → Agrees o y result → Leads m (End i result ∷ []) (putPhase i Free m)
-unfolding Good Fits watched watch
-leads-end m i z o y result e a = record { good = (subst⁻¹ (Ends result) e a, tt); ends = refl }
+unfolding Good EventFits watched watch
+leads-end m i z o y result e a = record { good = (subst⁻¹ (EndFits result) e a, tt); ends = refl }
 
 -- a call that begins, has its point and ends in one turn, and leaves its word
 pub at-once : (m : Watcher) (i z : ℕ) (o : Call) (result : ℕ) → m .phase i ≡ Free → left (m .words z) o ≡ m .words z → Agrees o (answer (m .words z) o) result
     → Leads m (Begin i z o ∷ Point i ∷ End i result ∷ []) m
 at-once m i z o result free same a =
     let b = putPhase i (Begun z o) m in
-    let d = pointed i b (Begun z o) in
+    let d = pointServed i b (Begun z o) in
     leads-to m
     (leads-on (Begin i z o ∷ []) (Point i ∷ End i result ∷ []) (leads-begin m i z o free)
     (leads-on (Point i ∷ []) (End i result ∷ []) (leads-point b i z o (upd-same (m .phase) i (Begun z o)))

@@ -30,14 +30,14 @@ abbrev pub putPhase : ℕ → Phase → Watcher → Watcher
 putPhase i f m = record { words = m .words; phase = upd (m .phase) i f }
 
 -- station i's call, in the phase f, has its point: its word serves it
-abbrev pub pointed : ℕ → Watcher → Phase → Watcher
-pointed i m Free = m
-pointed i m (Begun z o) = record { words = upd (m .words) z (left (m .words z) o); phase = upd (m .phase) i (Done z o (answer (m .words z) o)) }
-pointed i m (Done z o y) = m
+abbrev pub pointServed : ℕ → Watcher → Phase → Watcher
+pointServed i m Free = m
+pointServed i m (Begun z o) = record { words = upd (m .words) z (left (m .words z) o); phase = upd (m .phase) i (Done z o (answer (m .words z) o)) }
+pointServed i m (Done z o y) = m
 
 unfoldable pub watch : Watcher → Event → Watcher
 watch m (Begin i z o) = putPhase i (Begun z o) m
-watch m (Point i) = pointed i m (m .phase i)
+watch m (Point i) = pointServed i m (m .phase i)
 watch m (End i result) = putPhase i Free m
 
 unfoldable pub watched : Watcher → List Event → Watcher
@@ -50,17 +50,17 @@ Waits Free = ⊥
 Waits (Begun z o) = Unit {0}
 Waits (Done z o y) = ⊥
 
-abbrev pub Ends : ℕ → Phase → Type 0
-Ends result Free = ⊥
-Ends result (Begun z o) = ⊥
-Ends result (Done z o y) = Agrees o y result
+abbrev pub EndFits : ℕ → Phase → Type 0
+EndFits result Free = ⊥
+EndFits result (Begun z o) = ⊥
+EndFits result (Done z o y) = Agrees o y result
 
-unfoldable pub Fits : Watcher → Event → Type 0
-Fits m (Begin i z o) = m .phase i ≡ Free
-Fits m (Point i) = Waits (m .phase i)
-Fits m (End i result) = Ends result (m .phase i)
+unfoldable pub EventFits : Watcher → Event → Type 0
+EventFits m (Begin i z o) = m .phase i ≡ Free
+EventFits m (Point i) = Waits (m .phase i)
+EventFits m (End i result) = EndFits result (m .phase i)
 
 -- each event fits what was watched before it
 unfoldable pub Good : Watcher → List Event → Type 0
 Good m [] = Unit {0}
-Good m (e ∷ es) = Fits m e × Good (watch m e) es
+Good m (e ∷ es) = EventFits m e × Good (watch m e) es

@@ -8,7 +8,7 @@ use borrow.Author.Tests.{eqb-true, eqb-false}
 use lib.Dec.{eqb}
 use Rattle.rules.proofs.Facts.{either-way}
 use Rattle.method.specs.Update.{upd}
-use Rattle.method.specs.Watch.{Event, Point, Watcher, watch, Fits, Good}
+use Rattle.method.specs.Watch.{Event, Point, Watcher, watch, EventFits, Good}
 use Rattle.method.proofs.Upd.{upd-same, upd-other, upd-all}
 use Rattle.order.specs.Journal.{Journal, enters, allEnter}
 use Rattle.order.specs.Accepted.{times}
@@ -61,7 +61,7 @@ module _ {now : ℕ} {new : List ℕ} {point′ : ℕ → ℕ} {list′ : List �
 pub all-entered : {x now : ℕ} → 1 ≤ now → (es : List Event) {owns : ℕ → ℕ} {m : Watcher} {g : Journal} (js : List ℕ) → Kept x now owns m g → Good m (map Point js ++ es)
     → let g′ = allEnter now js g in
     Entered now (map (g .latest) js) (g .point) (g′ .point) (g .list) (g′ .list)
-unfolding Good Fits watch allEnter
+unfolding Good EventFits watch allEnter
 all-entered {now = now} t es {g = g} [] k h = none-entered now (g .point) (g .list)
 all-entered {now = now} t es {m = m} {g = g} (j ∷ js) k h =
     let s = enters-it t k j (m .phase j) (h .0) (k .stands j) in

@@ -7,7 +7,7 @@ use native.Mathlib.Omega.{arith}
 use borrow.Author.Tests.{eq-eqb, ne-eqb}
 use Rattle.method.specs.declared.Call.{Call}
 use Rattle.method.specs.Update.{upd}
-use Rattle.method.specs.Watch.{Phase, Free, Begun, Done, Event, Begin, Point, End, Watcher, putPhase, pointed, watch, watched, Waits, Ends, Fits, Good}
+use Rattle.method.specs.Watch.{Phase, Free, Begun, Done, Event, Begin, Point, End, Watcher, putPhase, pointServed, watch, watched, Waits, EndFits, EventFits, Good}
 use Rattle.method.proofs.Upd.{upd-same}
 use Rattle.order.specs.Journal.{Journal, works, lists, enters, allEnter, ends, acts}
 use Rattle.order.proofs.Kept.{Stands, entryOf, in-call, Kept, Unbegun, begin-keeps, work-keeps, point-keeps, end-keeps}
@@ -16,7 +16,7 @@ module _ {x now : ℕ} (t : 1 ≤ now) {owns : ℕ → ℕ} {m : Watcher} {g : J
   abbrev c : ℕ
   c = g .latest i
 
-  pub point-event : (f : Phase) → Waits f → Stands i (owns i) c (entryOf x g c) f → Kept x now owns (pointed i m f) (enters now i g)
+  pub point-event : (f : Phase) → Waits f → Stands i (owns i) c (entryOf x g c) f → Kept x now owns (pointServed i m f) (enters now i g)
   point-event Free w h = absurd w
   point-event (Begun z o) w h =
       let e = h .0 in
@@ -29,7 +29,7 @@ module _ {x now : ℕ} (t : 1 ≤ now) {owns : ℕ → ℕ} {m : Watcher} {g : J
   enters-it (Begun z o) w h = (rw (ne-eqb c 0 (λ q. omega (arith, h .0 .is .some)), eq-eqb (g .point c) 0 (h .1)), h .1)
   enters-it (Done z o y) w h = absurd w
 
-  end-event : (result : ℕ) (f : Phase) {owns′ : ℕ → ℕ} → ((j : ℕ) → (j ≡ i → ⊥) → owns′ j ≡ owns j) → Ends result f
+  end-event : (result : ℕ) (f : Phase) {owns′ : ℕ → ℕ} → ((j : ℕ) → (j ≡ i → ⊥) → owns′ j ≡ owns j) → EndFits result f
       → Stands i (owns i) c (entryOf x g c) f → Kept x now owns′ (putPhase i Free m) (ends now i result g)
   end-event result Free others w h = absurd w
   end-event result (Begun z o) others w h = absurd w
@@ -56,11 +56,11 @@ module _ {x now : ℕ} (t : 1 ≤ now) (es : List Event) (P : Watcher → Type 0
 
   pub through-points : {owns : ℕ → ℕ} {m : Watcher} {g : Journal} (js : List ℕ) → Kept x now owns m g → Good m (map Point js ++ es)
       → ((m′ : Watcher) → Kept x now owns m′ (allEnter now js g) → Good m′ es → P (watched m′ es)) → P (watched m (map Point js ++ es))
-  unfolding Good Fits watched watch allEnter
+  unfolding Good EventFits watched watch allEnter
   through-points {owns} {m} {g} [] k h then = then m k h
   through-points {owns} {m} {g} (j ∷ js) k h then = through-points js (point-event t k j (m .phase j) (h .0) (k .stands j)) (h .1) then
 
 pub through-end : {x now : ℕ} {owns owns′ : ℕ → ℕ} {m : Watcher} {g : Journal} → 1 ≤ now → (i result : ℕ) → ((j : ℕ) → (j ≡ i → ⊥) → owns′ j ≡ owns j)
     → Kept x now owns m g → Good m (End i result ∷ []) → Kept x now owns′ (watched m (End i result ∷ [])) (ends now i result g)
-unfolding Good Fits watched watch
+unfolding Good EventFits watched watch
 through-end {m = m} t i result others k h = end-event t k i result (m .phase i) others (h .0) (k .stands i)

@@ -5,7 +5,7 @@ use native.Mathlib.Omega.{arith}
 use Rattle.method.specs.declared.Call.{Call}
 use Rattle.method.specs.Update.{upd}
 use Rattle.method.specs.OneWord.{answer, left, Agrees}
-use Rattle.method.specs.Watch.{Phase, Free, Begun, Done, Watcher, putPhase, pointed}
+use Rattle.method.specs.Watch.{Phase, Free, Begun, Done, Watcher, putPhase, pointServed}
 use Rattle.method.proofs.Upd.{upd-same, upd-other, upd-all}
 use Rattle.order.specs.Journal.{Journal, begins, works, lists, ends}
 use Rattle.order.specs.Accepted.{times, served}
@@ -189,7 +189,7 @@ module _ {x now : ℕ} {owns : ℕ → ℕ} {m : Watcher} {g : Journal} (k : Kep
         (rw (upd-same (g .point) c now) t, answered-last (g .call) (g .list) x c (unlisted (k .dated) c none) ∙ rw (k .word, what, word)),
       )
 
-      pub point-keeps : 1 ≤ now → g .point c ≡ 0 → Kept x now owns (pointed i m (Begun z o)) (lists now c g)
+      pub point-keeps : 1 ≤ now → g .point c ≡ 0 → Kept x now owns (pointServed i m (Begun z o)) (lists now c g)
       point-keeps t none =
           record {
             dated = points-now (k .dated) c t (mine .begun) none;

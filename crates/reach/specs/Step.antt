@@ -40,5 +40,5 @@ module _ {W Out : Type 0} (on : Access W Out) where
   unfoldable pub stepOf : Place → W → ℕ → Station → ℕ → ℕ → ℕ → Out
   stepOf p w i t kind a b = orRefused (refusalOf (offerRefusals (on .v w i) p (t .c) kind a b)) w (row on p w i t kind a b)
 
-  abbrev pub stepAt : W → ℕ → Station → ℕ → ℕ → ℕ → Out
-  stepAt w i t kind a b = stepOf (t .place) w i t kind a b
+  abbrev pub stepOn : W → ℕ → Station → ℕ → ℕ → ℕ → Out
+  stepOn w i t kind a b = stepOf (t .place) w i t kind a b

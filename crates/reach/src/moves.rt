@@ -4,7 +4,7 @@ ghost use mathlib.Core.Path.{_≡_};
 ghost use mathlib.Core.Bool.{false};
 ghost use Rattle.method.specs.Record.{resting};
 ghost use Rattle.method.specs.Table.{handed, begun, sees, after16, row5, row11, row12, row13, row14, row15, row16, row18, row19, row20};
-ghost use Rattle.reach.specs.Step.{badOffer, stepOf, stepAt};
+ghost use Rattle.reach.specs.Step.{badOffer, stepOf, stepOn};
 ghost use Rattle.reach.specs.Reach.{Ready, ready, reaching, onReach, moveOf};
 ghost use Rattle.method.specs.declared.Place.the-variants.{Rest};
 use crate::Moved;
@@ -377,7 +377,7 @@ impl Reach {
     // The operation of the place where the station stands.
     fn move_at(mut self, kind: u32, a: u32, b: u32) -> Moved
         requires { ⌜ Ready (self .station) × (badOffer kind a b ≡ false) ⌝ }
-        ensures { λ r. ⌜ r ≡ stepAt onReach self (self .id) (self .station) kind a b ⌝ }
+        ensures { λ r. ⌜ r ≡ stepOn onReach self (self .id) (self .station) kind a b ⌝ }
     {
         let t = self.station;
         let place = t.place;

@@ -19,7 +19,7 @@ use Rattle.runfile.specs.Layout.{records, callOf}
 use Rattle.run.specs.declared.Tally.{Tally}
 use Rattle.run.specs.Calls.{callAfter, waits}
 use Rattle.run.specs.Book.{Book, acts, allEnter}
-use Rattle.run.specs.Row.{byStation, sizeOf, startOf, partOf, wrote, bookIn, Notes, notesBy, notesIn, pointed, Fits, Becomes}
+use Rattle.run.specs.Row.{byStation, sizeOf, startOf, partOf, wrote, bookIn, Notes, notesBy, notesIn, pointCount, RowFits, Becomes}
 use Rattle.run.specs.Run.{noted}
 use Rattle.run.specs.Drive.{NotesOf}
 use Rattle.run.proofs.Written.{written, long}
@@ -67,7 +67,7 @@ noted-leaves table w turn i c own (Ended result took) b =
 noted-leaves table w turn i c own (Refused number) b = record { upcoming = inl refl; idle = omega arith; begun = omega arith; ended = omega arith }
 
 module _ (w w′ : Bench) (table row row′ : List ℕ) (s s′ : Tally) (turn i c turns : ℕ) (x : Answer) (ht : Station)
-    (fits : Fits row s) (notes : NotesOf table w (notesIn row s)) (became : Becomes row s (noted table w turn i c turns x) row′ s′)
+    (fits : RowFits row s) (notes : NotesOf table w (notesIn row s)) (became : Becomes row s (noted table w turn i c turns x) row′ s′)
     (stations : w′ .stations ≡ set (w .stations) i ht) (inside : i < byStation) where
   abbrev b : Book
   b = bookIn row s
@@ -87,10 +87,10 @@ module _ (w w′ : Bench) (table row row′ : List ℕ) (s s′ : Tally) (turn i
   notes-are =
       ap (λ parts. notesBy parts s′) one ∙ ap (λ z. record { book = z .book; next = z .next; wait = set (z .wait) i (waits ht) }) (became .notes)
 
-  pub fits-after : Fits row″ s′
+  pub fits-after : RowFits row″ s′
   fits-after = record {
     places = length-set row′ (5158 + i) (waits ht) ∙ became .fits .places;
-    all = became .fits .all ∙ ap (λ (parts : ℕ → List ℕ). pointed (parts 3)) (sym one);
+    all = became .fits .all ∙ ap (λ (parts : ℕ → List ℕ). pointCount (parts 3)) (sym one);
     within = λ j. rw one (became .fits .within j);
   }
 

@@ -11,7 +11,7 @@ use Rattle.run.specs.declared.Tally.{Tally}
 use Rattle.run.specs.declared.Errand.{Errand}
 use Rattle.run.specs.declared.Operation.{Operation}
 use Rattle.run.specs.Book.{Book, acts, enters, allEnter, callEnds, waiters, actsFor, goesOn, unended}
-use Rattle.run.specs.Row.{sizeOf, startOf, partOf, wrote, bookIn, notesBy, onBook, pointed, Fits, Becomes, HasPlaces}
+use Rattle.run.specs.Row.{sizeOf, startOf, partOf, wrote, bookIn, notesBy, onBook, pointCount, RowFits, Becomes, HasPlaces}
 use Rattle.run.specs.Drive.{oneIdle}
 use Rattle.run.proofs.Written.{written, read}
 use Rattle.run.proofs.Points.{within-set}
@@ -49,7 +49,7 @@ acts-ended true i c d turns b = refl
 acts-ended false i c d turns b = refl
 
 -- a change as it stands, under another name, and after another
-pub unchanged : {row : List ℕ} {s : Tally} → Fits row s → Becomes row s (λ b. b) row s
+pub unchanged : {row : List ℕ} {s : Tally} → RowFits row s → Becomes row s (λ b. b) row s
 unchanged f = record { notes = refl; fits = f }
 
 pub same-change : {row row′ : List ℕ} {s r : Tally} {f g : Book → Book} → ((b : Book) → f b ≡ g b) → Becomes row s f row′ r → Becomes row s g row′ r
@@ -78,7 +78,7 @@ module _ (row : List ℕ) (s : Tally) (pid seq turn : ℕ) where
   abbrev pub Raised : ℕ → List ℕ → Tally → Type 0
   Raised j row′ r = Becomes row s (allEnter turn (waiters wait pid seq j)) row′ r
 
-  pub none-yet : Fits row s → Raised 0 row s
+  pub none-yet : RowFits row s → Raised 0 row s
   unfolding allEnter waiters
   none-yet f = unchanged f
 
@@ -107,7 +107,7 @@ winner-first {row} pid seq turn n a b =
     same-change (λ x. ap (λ l. allEnter turn (waiters l pid seq n) (enters turn pid x)) (same-wait a)) (and-then a b)
 
 -- an operation of the errand's call, in the row
-module _ (row : List ℕ) (s : Tally) (e : Errand) (turns : ℕ) (f : Fits row s) (h : HasPlaces e) where
+module _ (row : List ℕ) (s : Tally) (e : Errand) (turns : ℕ) (f : RowFits row s) (h : HasPlaces e) where
   abbrev i : ℕ
   i = e .station
 
@@ -134,7 +134,7 @@ module _ (row : List ℕ) (s : Tally) (e : Errand) (turns : ℕ) (f : Fits row s
         notes = ap (λ parts. notesBy parts s) one ∙ rw q refl;
         fits = record {
           places = length-set row (0 + c) turns ∙ f .places;
-          all = f .all ∙ ap (λ (parts : ℕ → List ℕ). pointed (parts 3)) (sym one);
+          all = f .all ∙ ap (λ (parts : ℕ → List ℕ). pointCount (parts 3)) (sym one);
           within = λ j. rw one (f .within j);
         };
       }
@@ -159,13 +159,13 @@ module _ (row : List ℕ) (s : Tally) (e : Errand) (turns : ℕ) (f : Fits row s
         notes = ap (λ parts. notesBy parts oneBegun) three ∙ rw (q, comes-next) refl;
         fits = record {
           places = length-set row₂ (5125 + i) c ∙ length-set row₁ (5191 + i) d ∙ length-set row (0 + c) turns ∙ f .places;
-          all = f .all ∙ ap (λ (parts : ℕ → List ℕ). pointed (parts 3)) (sym three);
+          all = f .all ∙ ap (λ (parts : ℕ → List ℕ). pointCount (parts 3)) (sym three);
           within = λ j. rw three (within-set (partOf row 5) i c (h .call) (f .within) j);
         };
       }
 
 -- the call ends, in the row
-module _ (row : List ℕ) (s : Tally) (turn c result : ℕ) (f : Fits row s) (h : c < 1025) where
+module _ (row : List ℕ) (s : Tally) (turn c result : ℕ) (f : RowFits row s) (h : c < 1025) where
   abbrev pub oneEnded : Tally
   oneEnded = record { idle = s .idle; begun = s .begun; ended = s .ended + 1; listed = s .listed }
 
@@ -182,13 +182,13 @@ module _ (row : List ℕ) (s : Tally) (turn c result : ℕ) (f : Fits row s) (h 
         notes = ap (λ parts. notesBy parts oneEnded) two;
         fits = record {
           places = length-set (set row (1025 + c) result) (2050 + c) turn ∙ length-set row (1025 + c) result ∙ f .places;
-          all = f .all ∙ ap (λ (parts : ℕ → List ℕ). pointed (parts 3)) (sym two);
+          all = f .all ∙ ap (λ (parts : ℕ → List ℕ). pointCount (parts 3)) (sym two);
           within = λ j. rw two (f .within j);
         };
       }
 
 -- by a turn's answer
-module _ (row : List ℕ) (s : Tally) (x : Answer) (e : Errand) (o : Operation) (next wait : List ℕ) (f : Fits row s) where
+module _ (row : List ℕ) (s : Tally) (x : Answer) (e : Errand) (o : Operation) (next wait : List ℕ) (f : RowFits row s) where
   pub by-idle : (r : Tally) → x ≡ Idle → r ≡ oneIdle s → Becomes row s (unended x e o next wait) row r
   unfolding unended
   by-idle r q t = rw (q, t) (record { notes = refl; fits = record { places = f .places; all = f .all; within = f .within } })

@@ -37,7 +37,7 @@ use Rattle.run.specs.declared.Errand.{Errand}
 use Rattle.run.specs.declared.Operation.{Operation}
 use Rattle.run.specs.Calls.{offer, offering, onOffer, callFor, errandOf, operationOf, waits}
 use Rattle.run.specs.Book.{Book, idles, finishes, unended}
-use Rattle.run.specs.Row.{byStation, sizeOf, startOf, partOf, bookIn, notesIn, Fits, Becomes, HasPlaces}
+use Rattle.run.specs.Row.{byStation, sizeOf, startOf, partOf, bookIn, notesIn, RowFits, Becomes, HasPlaces}
 use Rattle.run.specs.Run.{Run, noted, stepRun, runFrom}
 use Rattle.run.specs.Drive.{oneIdle, Good, NotesOf}
 use Rattle.run.proofs.Written.{read}
@@ -53,7 +53,7 @@ pub record Kept (n : ℕ) (start : Run) (table turns : List ℕ) (w : Bench) (ro
   pub count : k ≤ length turns
   pub isSound : sound w ≡ true
   pub same : w .n ≡ n
-  pub fits : Fits row s
+  pub fits : RowFits row s
   pub notes : NotesOf table w (notesIn row s)
   pub idle : s .idle ≤ k
   pub begun : s .begun ≤ k
@@ -135,14 +135,14 @@ module _ (n : ℕ) (start : Run) (table turns : List ℕ) (w : Bench) (row : Lis
 
   -- what the book asks of a turn that did not end its call
   pub may-go : (errand : Errand) (o : Operation) (made : ℕ) → errand ≡ e → o ≡ operationOf t (w .v) made n
-      → Fits row s × (HasPlaces errand × ((s .begun < 65536) × ((o .n < byStation) × ((o .saw .pid < byStation) × (s .idle < 65536)))))
+      → RowFits row s × (HasPlaces errand × ((s .begun < 65536) × ((o .n < byStation) × ((o .saw .pid < byStation) × (s .idle < 65536)))))
   may-go errand o made errand-is o-is =
       let q : t .saw .pid ≤ w .n = saved p (w .n) t (facts w (kept .isSound) .station i inside .stands) in
       rw (errand-is, o-is)
       (kept .fits, (has-places, (omega (arith, kept .begun, good .few), (omega (arith, few, kept .same), (omega (arith, q, few), omega (arith, kept .idle, good .few))))))
 
   -- and of one that ended it
-  pub may-end : (errand : Errand) → errand ≡ e → Fits row s × (HasPlaces errand × ((s .begun < 65536) × (s .ended < 65536)))
+  pub may-end : (errand : Errand) → errand ≡ e → RowFits row s × (HasPlaces errand × ((s .begun < 65536) × (s .ended < 65536)))
   may-end errand errand-is = rw errand-is (kept .fits, (has-places, (omega (arith, kept .begun, good .few), omega (arith, kept .ended, good .few))))
 
   -- a station at rest with no call left leaves all as it was, but for a turn and an idle turn more

@@ -12,17 +12,17 @@ use lib.Seq.{take-suc-set}
 use Rattle.rules.proofs.Facts.{either-way}
 use Rattle.run.specs.declared.Tally.{Tally}
 use Rattle.run.specs.Book.{enters}
-use Rattle.run.specs.Row.{byCall, byStation, sizeOf, startOf, partOf, wrote, notesBy, pointed, CallsWithin, Fits, Becomes}
+use Rattle.run.specs.Row.{byCall, byStation, sizeOf, startOf, partOf, wrote, notesBy, pointCount, CallsWithin, RowFits, Becomes}
 use Rattle.run.proofs.Written.{written, read, long}
 
-pub most : (l : List ℕ) → pointed l ≤ length l
-unfolding pointed
+pub most : (l : List ℕ) → pointCount l ≤ length l
+unfolding pointCount
 most [] = omega arith
 most (q ∷ qs) = either-way (eqb q 0) (λ t. rw t (omega (arith, most qs))) (λ t. rw t (omega (arith, most qs)))
 
 -- where a call has no point there is room for another
-pub room : (point : List ℕ) (c : ℕ) → c < length point → getD point c 0 ≡ 0 → pointed point < length point
-unfolding pointed
+pub room : (point : List ℕ) (c : ℕ) → c < length point → getD point c 0 ≡ 0 → pointCount point < length point
+unfolding pointCount
 room [] c h e = absurd (not-suc-le-zero h)
 room (p ∷ ps) zero h e = rw (eq-eqb p 0 e) (omega (arith, most ps))
 room (p ∷ ps) (suc c) h e =
@@ -30,8 +30,8 @@ room (p ∷ ps) (suc c) h e =
     either-way (eqb p 0) (λ t. rw t (omega arith)) (λ t. rw t (omega arith))
 
 -- a point more
-pub point-more : (point : List ℕ) (c turn : ℕ) → c < length point → getD point c 0 ≡ 0 → 1 ≤ turn → pointed (set point c turn) ≡ pointed point + 1
-unfolding pointed
+pub point-more : (point : List ℕ) (c turn : ℕ) → c < length point → getD point c 0 ≡ 0 → 1 ≤ turn → pointCount (set point c turn) ≡ pointCount point + 1
+unfolding pointCount
 point-more [] c turn h e g = absurd (not-suc-le-zero h)
 point-more (p ∷ ps) zero turn h e g = rw (eq-eqb p 0 e, ne-eqb turn 0 (λ q. omega arith)) (omega arith)
 point-more (p ∷ ps) (suc c) turn h e g = rw (point-more ps c turn (le-of-suc-le-suc h) e g) (omega arith)
@@ -48,12 +48,12 @@ abbrev pub oneListed : Tally → Tally
 oneListed s = record { idle = s .idle; begun = s .begun; ended = s .ended; listed = s .listed + 1 }
 
 -- no more are listed than there are places
-pub few-listed : {row : List ℕ} {s : Tally} → Fits row s → s .listed ≤ byCall
+pub few-listed : {row : List ℕ} {s : Tally} → RowFits row s → s .listed ≤ byCall
 unfolding sizeOf
 few-listed {row} f = omega (arith, f .all, long row 3 (f .places) (omega arith), most (partOf row 3))
 
 -- the latest call of station j, where the row has it
-module _ (row : List ℕ) (s : Tally) (j turn : ℕ) (f : Fits row s) (inside : j < byStation) where
+module _ (row : List ℕ) (s : Tally) (j turn : ℕ) (f : RowFits row s) (inside : j < byStation) where
   abbrev pub c : ℕ
   c = getD row (5125 + j) 0
 
@@ -104,7 +104,7 @@ module _ (row : List ℕ) (s : Tally) (j turn : ℕ) (f : Fits row s) (inside : 
                 places = length-set (set row (3075 + c) turn) (4100 + s .listed) c ∙ length-set row (3075 + c) turn ∙ f .places;
                 all =
                     ap (λ k. k + 1) (f .all) ∙ sym (point-more (partOf row 3) c turn (omega (arith, l, small)) (at-point ∙ e) t)
-                    ∙ ap (λ (parts : ℕ → List ℕ). pointed (parts 3)) (sym both);
+                    ∙ ap (λ (parts : ℕ → List ℕ). pointCount (parts 3)) (sym both);
                 within = λ i. rw both (f .within i);
               };
         }

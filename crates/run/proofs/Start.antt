@@ -15,7 +15,7 @@ use Rattle.bench.specs.Turn.{freshOf}
 use Rattle.bench.proofs.Promised.{kept-sound}
 use Rattle.runfile.specs.Reading.{readOf, tableOf, turnsOf}
 use Rattle.run.specs.Calls.{callAfter, waits}
-use Rattle.run.specs.Row.{byStation, sizeOf, partOf, bookIn, notesIn, pointed, Fits}
+use Rattle.run.specs.Row.{byStation, sizeOf, partOf, bookIn, notesIn, pointCount, RowFits}
 use Rattle.run.specs.Run.{firstCalls, emptyBook, runFrom}
 use Rattle.run.specs.declared.Drove.{Drove}
 use Rattle.run.specs.Drive.{noTally, NotesOf, Drivable, Driven, LinkedIn, runOfFile}
@@ -24,8 +24,8 @@ use Rattle.run.proofs.Steps.{mine-after}
 use Rattle.run.proofs.Files.{reads-well}
 use Rattle.run.proofs.Loop.{state}
 
-none-pointed : (k : ℕ) → pointed (replicate k 0) ≡ 0
-unfolding pointed
+none-pointed : (k : ℕ) → pointCount (replicate k 0) ≡ 0
+unfolding pointCount
 none-pointed zero = refl
 none-pointed (suc k) = omega (arith, none-pointed k)
 
@@ -64,10 +64,10 @@ module _ (file row : List ℕ) (well : readOf file .refused ≡ 0) (linked : Lin
   zero-at : (q i : ℕ) → q < 7 → getD (partOf row q) i 0 ≡ 0
   zero-at q i h = ap (λ l. getD l i 0) (linked .zeros q h) ∙ all-zero (sizeOf q) i
 
-  fits : Fits row noTally
+  fits : RowFits row noTally
   fits = record {
     places = linked .places;
-    all = sym (ap pointed (linked .zeros 3 (omega arith)) ∙ none-pointed (sizeOf 3));
+    all = sym (ap pointCount (linked .zeros 3 (omega arith)) ∙ none-pointed (sizeOf 3));
     within = λ j.
         let z = zero-at 5 j (omega arith) in
         omega arith;

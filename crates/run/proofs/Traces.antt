@@ -13,7 +13,7 @@ use Rattle.runfile.proofs.Trailers.{length-part}
 use Rattle.run.specs.declared.Tally.{Tally}
 use Rattle.run.specs.declared.Trace.{Trace}
 use Rattle.run.specs.declared.Drove.{Drove}
-use Rattle.run.specs.Row.{sizeOf, startOf, rowPlaces, zeroRow, partOf, bookIn, Fits}
+use Rattle.run.specs.Row.{sizeOf, startOf, rowPlaces, zeroRow, partOf, bookIn, RowFits}
 use Rattle.run.specs.Drive.{runOfFile}
 use Rattle.run.specs.Trace.{cleared, rowOf, noTrace, traceBy, traceOf, TracedTo, RanTo}
 use Rattle.run.proofs.Written.{long}
@@ -37,7 +37,7 @@ drawn d calls turns =
     }
 
 -- a row that is cleared after its list is its book's
-module _ (row : List ℕ) (s : Tally) (f : Fits row s) where
+module _ (row : List ℕ) (s : Tally) (f : RowFits row s) where
   pub how-many-listed : length (bookIn row s .list) ≡ s .listed
   unfolding sizeOf
   how-many-listed = length-take-le (s .listed) (partOf row 4) (omega (arith, few-listed f, long row 4 (f .places) (omega arith)))
@@ -59,7 +59,7 @@ module _ (row : List ℕ) (s : Tally) (f : Fits row s) where
       (ap (λ l. l ++ replicate (6249 - (4100 + s .listed)) 0) (take-add 4100 (s .listed) row ∙ ap (λ l. l ++ take (s .listed) (drop 4100 row)) in-front
       ∙ ap (λ l. partOf row 0 ++ partOf row 1 ++ partOf row 2 ++ partOf row 3 ++ l) in-list))
 
-module _ (file row : List ℕ) (d : Drove) (f : Fits row (d .tally)) (ran : state (d .bench) (length (turnsOf file)) (bookIn row (d .tally)) ≡ runOfFile file) where
+module _ (file row : List ℕ) (d : Drove) (f : RowFits row (d .tally)) (ran : state (d .bench) (length (turnsOf file)) (bookIn row (d .tally)) ≡ runOfFile file) where
   numbers : (calls turns : ℕ) → calls ≡ readOf file .q → turns ≡ length (turnsOf file) → drawn d calls turns ≡ traceBy (readOf file .q) (runOfFile file)
   numbers calls turns h e =
       let listed : d .tally .listed ≡ length (runOfFile file .book .list) = sym (how-many-listed row (d .tally) f) ∙ ap (λ r. length (r .book .list)) ran in

@@ -15,7 +15,7 @@ use Rattle.reach.specs.Step.{badOffer}
 use Rattle.run.specs.declared.Tally.{Tally}
 use Rattle.run.specs.declared.Drove.{Drove}
 use Rattle.run.specs.Calls.{callAfter, offer, waits, Linked}
-use Rattle.run.specs.Row.{byStation, rowPlaces, headPart, nextPart, sizeOf, partOf, bookIn, Notes, notesIn, Fits}
+use Rattle.run.specs.Row.{byStation, rowPlaces, headPart, nextPart, sizeOf, partOf, bookIn, Notes, notesIn, RowFits}
 use Rattle.run.specs.Run.{Run, runFrom, runOf}
 
 abbrev pub noTally : Tally
@@ -44,13 +44,13 @@ pub record NotesOf (table : List ℕ) (w : Bench) (m : Notes) : Type 0 where
 pub record Drivable (w : Bench) (table turns row : List ℕ) : Type 0 where
   pub isSound : sound w ≡ true
   pub good : Good (w .n) table turns
-  pub fits : Fits row noTally
+  pub fits : RowFits row noTally
   pub notes : NotesOf table w (notesIn row noTally)
 
 -- the bench, the counts and the book in the row are those of the run
 pub record Driven (w : Bench) (table turns row : List ℕ) (r : Drove) (row′ : List ℕ) : Type 0 where
   pub run : record { bench = r .bench; turns = length turns; book = bookIn row′ (r .tally) } ≡ runFrom table (record { bench = w; turns = 0; book = bookIn row noTally }) turns
-  pub fits : Fits row′ (r .tally)
+  pub fits : RowFits row′ (r .tally)
 
 -- the calls after c are linked, and the other parts are zero
 pub record LinkedIn (table row : List ℕ) (c : ℕ) : Type 0 where

@@ -104,23 +104,23 @@ abbrev pub onBook : (Book → Book) → Notes → Notes
 onBook f m = record { book = f (m .book); next = m .next; wait = m .wait }
 
 -- how many calls have a point
-unfoldable pub pointed : List ℕ → ℕ
-pointed [] = 0
-pointed (p ∷ ps) = cond (eqb p 0) 0 1 + pointed ps
+unfoldable pub pointCount : List ℕ → ℕ
+pointCount [] = 0
+pointCount (p ∷ ps) = cond (eqb p 0) 0 1 + pointCount ps
 
 abbrev pub CallsWithin : List ℕ → Type 0
 CallsWithin calls = (j : ℕ) → getD calls j 0 < byCall
 
 -- as many are listed as have a point, so that there is always room for another
-pub record Fits (row : List ℕ) (s : Tally) : Type 0 where
+pub record RowFits (row : List ℕ) (s : Tally) : Type 0 where
   pub places : length row ≡ rowPlaces
-  pub all : s .listed ≡ pointed (partOf row pointPart)
+  pub all : s .listed ≡ pointCount (partOf row pointPart)
   pub within : CallsWithin (partOf row latestPart)
 
 -- the book in a row has changed so, and the rest of the notes has not
 pub record Becomes (row : List ℕ) (s : Tally) (change : Book → Book) (row′ : List ℕ) (r : Tally) : Type 0 where
   pub notes : notesIn row′ r ≡ onBook change (notesIn row s)
-  pub fits : Fits row′ r
+  pub fits : RowFits row′ r
 
 -- the errand's station and call have their places in the parts
 pub record HasPlaces (e : Errand) : Type 0 where

@@ -4,7 +4,7 @@ ghost use mathlib.Core.Bool.{cond};
 ghost use mathlib.Core.List.{[], _∷_};
 ghost use Prim.Native.Nat.{_<_, _≤_};
 ghost use Rattle.run.specs.Book.{enters, allEnter, waiters, raisers, actsFor, goesOn, finishes, unended};
-ghost use Rattle.run.specs.Row.{byStation, waitPart, nextPart, partOf, Fits, Becomes, HasPlaces};
+ghost use Rattle.run.specs.Row.{byStation, waitPart, nextPart, partOf, RowFits, Becomes, HasPlaces};
 ghost use Rattle.run.specs.Drive.{oneIdle};
 use crate::Errand;
 use crate::Finish;
@@ -24,7 +24,7 @@ use method::Answer;
 
 // The latest call of station j has its point in this turn, if it is in one that has none yet.
 pub(crate) fn enter(row: &mut [u32], s: Tally, j: u32, turn: u32) -> Tally
-    requires { ⌜ Fits (now row) s × ((j < byStation) × (0 < turn)) ⌝ }
+    requires { ⌜ RowFits (now row) s × ((j < byStation) × (0 < turn)) ⌝ }
     ensures { λ r. ⌜ Becomes (now (row .entry)) s (enters turn j) (now (row .exit)) r ⌝ }
 {
     let c = row[LATEST + j as usize];
@@ -48,7 +48,7 @@ pub(crate) fn enter(row: &mut [u32], s: Tally, j: u32, turn: u32) -> Tally
 
 // Where place 19 raises V.seq to the saved version: the call of the saved pid's station, then those of the others that wait for that version, by station number.
 pub(crate) fn raise(row: &mut [u32], s: Tally, n: u32, saw: Claim, turn: u32) -> Tally
-    requires { ⌜ Fits (now row) s × ((n < byStation) × ((saw .pid < byStation) × (0 < turn))) ⌝ }
+    requires { ⌜ RowFits (now row) s × ((n < byStation) × ((saw .pid < byStation) × (0 < turn))) ⌝ }
     ensures { λ r. ⌜ Becomes (now (row .entry)) s (allEnter turn (saw .pid ∷ waiters (partOf (now (row .entry)) waitPart) (saw .pid) (saw .seq) n)) (now (row .exit)) r ⌝ }
 {
     let pid = saw.pid;
@@ -67,7 +67,7 @@ pub(crate) fn raise(row: &mut [u32], s: Tally, n: u32, saw: Claim, turn: u32) ->
 
 // An operation for the errand's call makes so many own turns; a station at rest begins the call with it.
 fn acted(row: &mut [u32], s: Tally, e: Errand, turns: u32) -> Tally
-    requires { ⌜ Fits (now row) s × (HasPlaces e × (s .begun < 65536)) ⌝ }
+    requires { ⌜ RowFits (now row) s × (HasPlaces e × (s .begun < 65536)) ⌝ }
     ensures { λ r. ⌜ Becomes (now (row .entry)) s (actsFor e turns (partOf (now (row .entry)) nextPart)) (now (row .exit)) r ⌝ }
 {
     let at = e.station as usize;
@@ -90,7 +90,7 @@ fn acted(row: &mut [u32], s: Tally, e: Errand, turns: u32) -> Tally
 
 // The calls that have their point where V.seq was raised; none where it was not.
 fn raised(row: &mut [u32], s: Tally, o: Operation, turn: u32) -> Tally
-    requires { ⌜ Fits (now row) s × ((o .n < byStation) × ((o .saw .pid < byStation) × (0 < turn))) ⌝ }
+    requires { ⌜ RowFits (now row) s × ((o .n < byStation) × ((o .saw .pid < byStation) × (0 < turn))) ⌝ }
     ensures { λ r. ⌜ Becomes (now (row .entry)) s (allEnter turn (raisers o (partOf (now (row .entry)) waitPart))) (now (row .exit)) r ⌝ }
 {
     let raises = o.raises;
@@ -104,7 +104,7 @@ fn raised(row: &mut [u32], s: Tally, o: Operation, turn: u32) -> Tally
 
 // A turn with an operation that did not end its call.
 fn operated(row: &mut [u32], s: Tally, e: Errand, o: Operation) -> Tally
-    requires { ⌜ Fits (now row) s × (HasPlaces e × ((s .begun < 65536) × ((o .n < byStation) × (o .saw .pid < byStation)))) ⌝ }
+    requires { ⌜ RowFits (now row) s × (HasPlaces e × ((s .begun < 65536) × ((o .n < byStation) × (o .saw .pid < byStation)))) ⌝ }
     ensures { λ r. ⌜ Becomes (now (row .entry)) s (goesOn e o (partOf (now (row .entry)) nextPart) (partOf (now (row .entry)) waitPart)) (now (row .exit)) r ⌝ }
 {
     let turn = e.turn;
@@ -115,7 +115,7 @@ fn operated(row: &mut [u32], s: Tally, e: Errand, o: Operation) -> Tally
 
 // A call that ends in its first turn has its point there.
 fn at_once(row: &mut [u32], s: Tally, e: Errand) -> Tally
-    requires { ⌜ Fits (now row) s × HasPlaces e ⌝ }
+    requires { ⌜ RowFits (now row) s × HasPlaces e ⌝ }
     ensures { λ r. ⌜ Becomes (now (row .entry)) s (allEnter (e .turn) (cond (e .rests) (e .station ∷ []) [])) (now (row .exit)) r ⌝ }
 {
     let turn = e.turn;
@@ -129,7 +129,7 @@ fn at_once(row: &mut [u32], s: Tally, e: Errand) -> Tally
 
 // A turn that ended its call with a result.
 pub(crate) fn finished(row: &mut [u32], s: Tally, e: Errand, f: Finish) -> Tally
-    requires { ⌜ Fits (now row) s × (HasPlaces e × ((s .begun < 65536) × (s .ended < 65536))) ⌝ }
+    requires { ⌜ RowFits (now row) s × (HasPlaces e × ((s .begun < 65536) × (s .ended < 65536))) ⌝ }
     ensures { λ r. ⌜ Becomes (now (row .entry)) s (finishes e f (partOf (now (row .entry)) nextPart)) (now (row .exit)) r ⌝ }
 {
     let c = e.call as usize;
@@ -163,7 +163,7 @@ pub(crate) fn idled(s: Tally) -> Tally
 
 // A turn that did not end its call: idle, an operation after which the call goes on, or refused, which counts for nothing.
 pub(crate) fn not_ended(row: &mut [u32], s: Tally, x: Answer, e: Errand, o: Operation) -> Tally
-    requires { ⌜ Fits (now row) s × (HasPlaces e × ((s .begun < 65536) × ((o .n < byStation) × ((o .saw .pid < byStation) × (s .idle < 65536))))) ⌝ }
+    requires { ⌜ RowFits (now row) s × (HasPlaces e × ((s .begun < 65536) × ((o .n < byStation) × ((o .saw .pid < byStation) × (s .idle < 65536))))) ⌝ }
     ensures { λ r. ⌜ Becomes (now (row .entry)) s (unended x e o (partOf (now (row .entry)) nextPart) (partOf (now (row .entry)) waitPart)) (now (row .exit)) r ⌝ }
 {
     match x {

@@ -18,10 +18,10 @@ use Rattle.run.proofs.Files.{reads-well}
 use Rattle.limits.specs.Small.{Small, SmallNumbers}
 use Rattle.limits.proofs.Promised.{small-numbers}
 use Rattle.lines.specs.declared.Line.{Line}
-use Rattle.lines.specs.Lines.{field, answerWord, lineText, lineOf, linesText, lastText, sheetText}
+use Rattle.lines.specs.Lines.{spacedNumber, answerWord, lineText, lineOf, linesText, lastText, sheetText}
 use Rattle.sheet.specs.Report.{runText, reportText}
 
-digits : (n k : ℕ) → n < 10 ^ k → 0 < k → length (field n) ≤ k + 1
+digits : (n k : ℕ) → n < 10 ^ k → 0 < k → length (spacedNumber n) ≤ k + 1
 digits n k h g = simp length-append (omega (arith, length-decimal n k h g))
 
 length-answer : (l : Line) → l .answer < 2 ^ 32 → length (answerWord l) ≤ 10

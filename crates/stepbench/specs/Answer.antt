@@ -17,7 +17,7 @@ use Rattle.runtext.specs.declared.Printed.{Printed}
 use Rattle.runtext.specs.Text.{printOf}
 use Rattle.drafting.specs.declared.Parsed.{Parsed}
 use Rattle.drafting.specs.Parse.{parseOf}
-use Rattle.stepbench.specs.Word.{answerWord, Apart}
+use Rattle.stepbench.specs.Word.{packedWord, Apart}
 
 -- the largest K that a word holds, 16,777,215
 abbrev pub lastLine : ℕ
@@ -34,20 +34,20 @@ abbrev pub fileRoom : ℕ
 fileRoom = longest
 
 abbrev pub reportedWord : Reported → ℕ
-reportedWord r = answerWord (r .refused) (r .k) (r .len)
+reportedWord r = packedWord (r .refused) (r .k) (r .len)
 
 abbrev pub printedWord : Printed → ℕ
-printedWord r = answerWord (r .refused) (r .k) (r .len)
+printedWord r = packedWord (r .refused) (r .k) (r .len)
 
 -- what was expected, and the line; one that does not fit is told as the largest that does
 abbrev pub lineTold : ℕ → ℕ
 lineTold line = min line lastLine
 
 abbrev pub parsedWord : Parsed → ℕ
-parsedWord r = answerWord (r .expected) (lineTold (r .line)) (r .len)
+parsedWord r = packedWord (r .expected) (lineTold (r .line)) (r .len)
 
 abbrev pub writtenWord : WriteAnswer → ℕ
-writtenWord r = answerWord (r .refused) (r .k) (r .len)
+writtenWord r = packedWord (r .refused) (r .k) (r .len)
 
 abbrev pub reportWord : List ℕ → List ℕ → ℕ
 reportWord file out = reportedWord (reportOf file (length out))
@@ -63,7 +63,7 @@ writeWord n table turns out = writtenWord (writeOf n table turns (length out))
 
 -- reading writes no bytes: its length is 0
 abbrev pub readWord : List ℕ → ℕ
-readWord file = answerWord (readOf file .refused) (readOf file .k) 0
+readWord file = packedWord (readOf file .refused) (readOf file .k) 0
 
 -- a lent number afterwards: what was read, or as it was where the file is refused
 abbrev pub numberLeft : List ℕ → ℕ → ℕ → ℕ
@@ -84,7 +84,7 @@ tLeft file before = numberLeft file before (readOf file .t)
 -- of an answer: what was put into its word comes out of it, N is at most 14, K and the length are at most as large as said;
 -- without a refusal K is 0, and with one the length is
 pub record ComesApart (n k len mostK room : ℕ) : Type 0 where
-  pub apart : Apart (answerWord n k len) n k len
+  pub apart : Apart (packedWord n k len) n k len
   pub number : n ≤ 14
   pub which : k ≤ mostK
   pub bytes : len ≤ room

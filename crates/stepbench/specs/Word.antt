@@ -2,8 +2,8 @@
 use mathlib.Core.Path.{_≡_}
 use Prim.Native.Nat.{ℕ, _+_, _*_, _/_, _%_, _^_, _<_}
 
-abbrev pub answerWord : ℕ → ℕ → ℕ → ℕ
-answerWord n k len = (n % 2 ^ 8 * 2 ^ 24 + k % 2 ^ 24) * 2 ^ 32 + len % 2 ^ 32
+abbrev pub packedWord : ℕ → ℕ → ℕ → ℕ
+packedWord n k len = (n % 2 ^ 8 * 2 ^ 24 + k % 2 ^ 24) * 2 ^ 32 + len % 2 ^ 32
 
 -- STEPBENCH_REFUSED, STEPBENCH_K and STEPBENCH_LENGTH of the header
 abbrev pub refusedIn : ℕ → ℕ
@@ -22,4 +22,4 @@ pub record Apart (w n k len : ℕ) : Type 0 where
 
 -- what fits comes out as it was put in
 unfoldable pub WordsComeApart : Type 0
-WordsComeApart = (n k len : ℕ) → n < 2 ^ 8 → k < 2 ^ 24 → len < 2 ^ 32 → Apart (answerWord n k len) n k len
+WordsComeApart = (n k len : ℕ) → n < 2 ^ 8 → k < 2 ^ 24 → len < 2 ^ 32 → Apart (packedWord n k len) n k len

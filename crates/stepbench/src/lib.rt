@@ -5,12 +5,12 @@ ghost use Rattle.sheet.specs.Report.{reportedOn};
 ghost use Rattle.runfile.specs.Writing.{outOf};
 ghost use Rattle.runtext.specs.Text.{printedOn};
 ghost use Rattle.drafting.specs.Parse.{parsedOn};
-ghost use Rattle.stepbench.specs.Word.{answerWord, WordsComeApart};
+ghost use Rattle.stepbench.specs.Word.{packedWord, WordsComeApart};
 ghost use Rattle.stepbench.specs.Answer.{lineTold, reportWord, printWord, parseWord, writeWord, readWord, xLeft, nLeft, qLeft, tLeft, AnswersComeApart};
 
 // A refusal, its K and a length in one word.
 fn word(refused: u32, k: usize, len: usize) -> u64
-    ensures { λ r. ⌜ r ≡ answerWord refused k len ⌝ }
+    ensures { λ r. ⌜ r ≡ packedWord refused k len ⌝ }
 {
     let n = (refused % 256) as u64;
     let k = (k % 16777216) as u64;

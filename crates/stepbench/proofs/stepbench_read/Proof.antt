@@ -2,13 +2,13 @@ use borrow.Author.Needs.{needs}
 use mathlib.Core.Path.{_∙_, ap}
 use Prim.Native.Nat.{ℕ}
 use Rattle.runfile.specs.declared.ReadAnswer.{ReadAnswer}
-use Rattle.stepbench.specs.Word.{answerWord}
+use Rattle.stepbench.specs.Word.{packedWord}
 use Rattle.stepbench.proofs.Numbers.{as-it-was, as-read}
 use Rattle.stepbench.proofs.stepbench_read.Statement.{statement}
 use Rattle.stepbench.proofs.stepbench_read.Tie as tie
 
 abbrev readWorded : ReadAnswer → ℕ
-readWorded r = answerWord (r .refused) (r .k) 0
+readWorded r = packedWord (r .refused) (r .k) 0
 
 pub stepbench-read-spec : {M : Type 1} → statement M
 stepbench-read-spec =
