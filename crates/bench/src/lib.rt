@@ -1,5 +1,7 @@
 // The bench: its registers and stations, and what a turn takes and hands back. A fresh bench is made here.
 // Its modules: sound (the test of a bench), turns (one turn of the bench).
+#![tactic(auto)]
+
 ghost use Rattle.std.specs.Prelude.{◌≡◌};
 ghost use Rattle.bench.specs.Record.{blank};
 ghost use Rattle.bench.specs.Turn.{fresh_of};
@@ -12,7 +14,7 @@ mod sound;
 mod turns;
 
 // Entry 0 of a and r belongs to no station, nor does record 0, which stays as fresh.
-#[derive(Drop)]
+#[derive(Clone, Copy)]
 pub struct Bench {
     pub n: u32,
     pub v: Halves,
@@ -23,14 +25,14 @@ pub struct Bench {
 }
 
 // What a turn hands back.
-#[derive(Drop)]
+#[derive(Clone, Copy)]
 pub struct Turned {
     pub answer: Answer,
     pub bench: Bench,
 }
 
 // What the making of a fresh bench hands back: refused is 3, or 0.
-#[derive(Drop)]
+#[derive(Clone, Copy)]
 pub struct Made {
     pub refused: u32,
     pub bench: Bench,

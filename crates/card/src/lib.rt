@@ -1,18 +1,20 @@
 // The register card: words of two 32-bit halves, P, and the two operations that the card has besides read and write.
 // Every function takes a register's value and hands the new value back; nothing is assumed of the values.
+#![tactic(auto)]
+
 ghost use Rattle.std.specs.Prelude.{◌≡◌};
 ghost use Rattle.card.specs.Register.{max_write, half_max, max_claim, half_claim};
 ghost use Rattle.card.specs.Word.{revision_a, word_of, claim_word};
 
 // V, A[i] and R[i]: a first and a second half.
-#[derive(Drop)]
+#[derive(Clone, Copy)]
 pub struct Halves {
     pub first: u32,
     pub second: u32,
 }
 
 // P: seq is its first half; pid and c share its second.
-#[derive(Drop)]
+#[derive(Clone, Copy)]
 pub struct Claim {
     pub seq: u32,
     pub pid: u32,

@@ -14,7 +14,7 @@ use crate::{Draft, Scan};
 use runfile::CallRecord;
 
 // How far the text and the two rows have come.
-#[derive(Drop)]
+#[derive(Clone, Copy)]
 struct Place {
     scan: Scan,
     table: usize,
@@ -22,7 +22,7 @@ struct Place {
 }
 
 // Where the text ended: its line, the draft, and how much of the two rows is filled.
-#[derive(Drop)]
+#[derive(Clone, Copy)]
 pub(crate) struct Heap {
     pub line: usize,
     pub draft: Draft,

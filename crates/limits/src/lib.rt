@@ -1,5 +1,7 @@
 // How far a run can go: no turn of a file's run is refused, and the numbers that its report prints are small.
 // Theorems alone: a function for each, whose contract is the theorem and whose body is empty. They rest on the rooms' own proofs and assume nothing.
+#![tactic(auto)]
+
 ghost use Rattle.limits.specs.Answers.{NoneRefused};
 ghost use Rattle.limits.specs.Small.{SmallNumbers};
 

@@ -1,4 +1,6 @@
 // The text of a report: a line for each listed call and a last line, written to a lent buffer as far as it goes.
+#![tactic(auto)]
+
 ghost use Rattle.std.specs.Prelude.{◌≡◌, ◌≤◌, get_or};
 ghost use Rattle.script.specs.Wrote.{Wrote};
 ghost use Rattle.runfile.specs.Layout.{part};
@@ -11,7 +13,7 @@ use runfile::call_at;
 use script::{decimal, kind, put, word};
 
 // What a line says of a listed call; answer is 0 where the call has not ended.
-#[derive(Drop)]
+#[derive(Clone, Copy)]
 pub struct Line {
     pub place: u32,
     pub station: u32,

@@ -1,4 +1,6 @@
 // Why a text cannot be read, in words: the line that `write_run` tells a person.
+#![tactic(auto)]
+
 ghost use Rattle.std.specs.Prelude.{◌≡◌, min};
 ghost use Rattle.script.specs.Wrote.{Wrote};
 ghost use Rattle.messages.specs.Complaint.{words_for, complaint_of};

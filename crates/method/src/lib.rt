@@ -1,5 +1,7 @@
 // The method of document 001, Algorithm 1: the places where a station can stand, its record, and what a turn answers.
 // The step table over them is in specs/Table, over anything that holds the registers.
+#![tactic(auto)]
+
 ghost use Rattle.std.specs.Prelude.{◌≡◌};
 ghost use Rattle.method.specs.Promise.{EveryRunIsGood};
 ghost use Rattle.method.specs.Record.{num};
@@ -7,7 +9,7 @@ ghost use Rattle.method.specs.Record.{num};
 use card::{Claim, Halves};
 
 // Where a station stands: at rest, or before the operation of 001's line of that number.
-#[derive(Drop)]
+#[derive(Clone, Copy)]
 pub enum Place {
     Rest,
     At11,
@@ -22,7 +24,7 @@ pub enum Place {
 }
 
 // Kind 1 is set, 2 is swap.
-#[derive(Drop)]
+#[derive(Clone, Copy)]
 pub struct Call {
     pub kind: u32,
     pub a: u32,
@@ -30,7 +32,7 @@ pub struct Call {
 }
 
 // s is the version that place 5 read, saw what place 15 read of P, entry what place 16 read of A[saw.pid].
-#[derive(Drop)]
+#[derive(Clone, Copy)]
 pub struct Station {
     pub place: Place,
     pub call: Call,
@@ -41,7 +43,7 @@ pub struct Station {
     pub entry: Halves,
 }
 
-#[derive(Drop)]
+#[derive(Clone, Copy)]
 pub enum Answer {
     Idle,
     Going,

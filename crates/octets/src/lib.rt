@@ -1,4 +1,6 @@
 // Numbers in little-endian bytes. A number's width is that of the part it is written to or read from.
+#![tactic(auto)]
+
 ghost use Rattle.std.specs.Prelude.{◌≡◌, length, take};
 ghost use Rattle.octets.specs.Bytes.{bytes, spelled};
 ghost use Rattle.octets.specs.Promise.{Inverse};

@@ -1,4 +1,6 @@
 // The picture of a bench's registers, drawn into a lent buffer.
+#![tactic(auto)]
+
 ghost use Rattle.std.specs.Prelude.{◌≡◌, ◌+◌, ◌*◌, ◌≤◌, length};
 ghost use Rattle.std.proofs.lemmas.List.Edits.{sets};
 ghost use Rattle.octets.specs.Bytes.{bytes};
@@ -8,7 +10,7 @@ use bench::Bench;
 use card::Halves;
 
 // refused is 9, 14 or 0; len is how many bytes were drawn.
-#[derive(Drop)]
+#[derive(Clone, Copy)]
 pub struct Drawing {
     pub refused: u32,
     pub len: u32,

@@ -1,10 +1,12 @@
 // Benches and turns in numbers on standard input, what came of each turn on standard output, docs/PROBE.md.
 // A case's text is at most 6,975 bytes: `unsound` 8, an answer 28, 534 numbers 5,874, a picture 1,065.
+#![tactic(auto)]
+
 use libc::{STDERR_FILENO, STDIN_FILENO, STDOUT_FILENO};
 use probing::{Probe, Reading};
 
 // How far the input is read, and whether there is more to do.
-#[derive(Drop)]
+#[derive(Clone, Copy)]
 struct Stand {
     probe: Probe,
     on: bool,

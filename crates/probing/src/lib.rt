@@ -1,5 +1,7 @@
 // A bench in numbers, one turn of it, and what came of that, docs/PROBE.md. The input is fed in byte by byte.
 // Its modules: numbers (a bench out of a row of numbers), texts (the text of a case), feed (where numbers and cases end).
+#![tactic(auto)]
+
 ghost use Rattle.probing.specs.Promise.{NumbersSayBenches, CasesAreRead, FeedingSettled};
 
 mod feed;
@@ -10,7 +12,7 @@ pub use feed::{closed, fed, goes_on};
 
 // How far a case is read: how many of its numbers are whole, whether a word has begun, and the number that the word is so far.
 // A number of 4,294,967,296 or more is none.
-#[derive(Drop)]
+#[derive(Clone, Copy)]
 pub struct Reading {
     pub filled: usize,
     pub word: bool,
@@ -18,14 +20,14 @@ pub struct Reading {
 }
 
 // The number of the case, from 1, and how far it is read. Past a case that can't be read it stays as it is.
-#[derive(Drop)]
+#[derive(Clone, Copy)]
 pub struct Probe {
     pub k: u32,
     pub reading: Reading,
 }
 
 // How far the input is read after a byte, and how long the text is that was written for that byte.
-#[derive(Drop)]
+#[derive(Clone, Copy)]
 pub struct Said {
     pub probe: Probe,
     pub len: usize,

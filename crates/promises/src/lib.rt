@@ -1,5 +1,7 @@
 // The promises: a function for each, whose contract is the theorem and whose body is empty, so that the gate's log lists what the customer was promised.
 // They rest on the rooms' own proofs and assume nothing.
+#![tactic(auto)]
+
 ghost use Rattle.card.specs.Promise.{Card};
 ghost use Rattle.bench.specs.Promise.{RefusesExactly, KeptSound, OwnTurnsAreOperations};
 ghost use Rattle.order.specs.Demand.{EveryRun, WaitFree};

@@ -1,5 +1,7 @@
 // What one turn can reach, and a station's move on it: the table's operation of its place, with the refusals 11 to 13.
 // Its module: moves.
+#![tactic(auto)]
+
 use card::{Claim, Halves};
 use method::{Answer, Station};
 
@@ -8,7 +10,7 @@ mod moves;
 pub use moves::reaches;
 
 // What one turn of station id can reach: V, P, the one entry of A and of R, and the station's record.
-#[derive(Drop)]
+#[derive(Clone, Copy)]
 pub struct Reach {
     pub id: u32,
     pub v: Halves,
@@ -19,7 +21,7 @@ pub struct Reach {
 }
 
 // What a move hands back.
-#[derive(Drop)]
+#[derive(Clone, Copy)]
 pub struct Moved {
     pub answer: Answer,
     pub reach: Reach,

@@ -1,5 +1,7 @@
 // A run file on standard input as text on standard output. A refused file gives `refused N K` on standard error.
 // The buffer is longer than any good file, so one that is too long is refused 1 and not cut down. Reading or writing that fails is told on standard error.
+#![tactic(auto)]
+
 use libc::{STDERR_FILENO, STDOUT_FILENO};
 
 fn printed(file: &[u8], text: &mut [u8]) {

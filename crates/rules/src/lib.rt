@@ -1,5 +1,7 @@
 // What every refusing function shares: rules as lists of tests, and the refusal that a table gives, with its K.
 // Beside the verdict it has definitions and their laws alone; its functions stand for the laws of numbered refusals.
+#![tactic(auto)]
+
 ghost use Rattle.rules.specs.Refusal.{FirstIsGiven, LowestIsGiven};
 ghost use Rattle.rules.specs.Row.{ExactRows};
 
@@ -11,7 +13,7 @@ pub const CALLS: u32 = 1024;
 pub const TURNS: u32 = 40960;
 
 // A refusal's number and its K; zeros where nothing is refused.
-#[derive(Drop)]
+#[derive(Clone, Copy)]
 pub struct Verdict {
     pub refused: u32,
     pub k: usize,

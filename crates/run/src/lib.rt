@@ -1,6 +1,8 @@
 // A run of a file: calls out of its table are offered to the stations, turn by turn, and a book is kept of what took effect when, in one row of numbers.
 // Its modules: parts (where the row's parts start), calls (which call is whose next), book (what is kept by stations and by calls), drive (the loop over
 // the turns), ran (the run of a whole file), zeros, tracing (what the rooms above have of a run).
+#![tactic(auto)]
+
 use bench::Bench;
 use card::Claim;
 
@@ -17,7 +19,7 @@ pub use tracing::traced;
 
 // The numbers of a run: the calls of its table, its turns, idle turns, calls begun, ended and listed, and V at its end. Refused, all but refused and k
 // are zero.
-#[derive(Drop)]
+#[derive(Clone, Copy)]
 pub struct Trace {
     pub refused: u32,
     pub k: usize,
@@ -32,7 +34,7 @@ pub struct Trace {
 }
 
 // The counts of a run so far: idle turns, calls begun, calls ended, calls listed.
-#[derive(Drop)]
+#[derive(Clone, Copy)]
 pub struct Tally {
     pub idle: u32,
     pub begun: u32,
@@ -41,7 +43,7 @@ pub struct Tally {
 }
 
 // What a turn is for: its number, its station, the call, and whether the station was at rest.
-#[derive(Drop)]
+#[derive(Clone, Copy)]
 pub(crate) struct Errand {
     pub turn: u32,
     pub station: u32,
@@ -50,7 +52,7 @@ pub(crate) struct Errand {
 }
 
 // What a turn's operation that did not end its call was: the own turns made, whether V.seq was raised, to whose claim, and of how many stations.
-#[derive(Drop)]
+#[derive(Clone, Copy)]
 pub(crate) struct Operation {
     pub own: u32,
     pub raises: bool,
@@ -59,14 +61,14 @@ pub(crate) struct Operation {
 }
 
 // What a turn that ended its call handed back.
-#[derive(Drop)]
+#[derive(Clone, Copy)]
 pub(crate) struct Finish {
     pub result: u32,
     pub own: u32,
 }
 
 // The bench and the counts at the end of a run.
-#[derive(Drop)]
+#[derive(Clone, Copy)]
 pub(crate) struct Drove {
     pub bench: Bench,
     pub tally: Tally,

@@ -1,6 +1,8 @@
 // Run files: a file is read or refused by number, its parts are handed out without a copy, and a run is written.
 // Its modules: layout (the bytes of a call and of the trailer), checks (the refusals that reader and writer share),
 // reading, writing, and promises (what is proved of both together).
+#![tactic(auto)]
+
 mod checks;
 mod layout;
 mod promises;
@@ -17,7 +19,7 @@ pub use writing::write;
 
 // What is read of a file: x, n, the number of calls q and of turns t. The call table starts at start, the turns at middle.
 // Refused, all but refused and k are zero.
-#[derive(Drop)]
+#[derive(Clone, Copy)]
 pub struct ReadAnswer {
     pub refused: u32,
     pub k: usize,
@@ -30,7 +32,7 @@ pub struct ReadAnswer {
 }
 
 // A call of the table: kind 0 is read, 1 set, 2 swap.
-#[derive(Drop)]
+#[derive(Clone, Copy)]
 pub struct CallRecord {
     pub station: u32,
     pub kind: u32,
@@ -39,7 +41,7 @@ pub struct CallRecord {
 }
 
 // len is the number of bytes written; refused, it is zero.
-#[derive(Drop)]
+#[derive(Clone, Copy)]
 pub struct WriteAnswer {
     pub refused: u32,
     pub k: usize,
@@ -47,7 +49,7 @@ pub struct WriteAnswer {
 }
 
 // The trailer's six numbers; first and second are the distances back to the call table and to the turns.
-#[derive(Drop)]
+#[derive(Clone, Copy)]
 pub(crate) struct Trailer {
     pub x: u32,
     pub n: u32,

@@ -1,6 +1,8 @@
 // Text appended to a lent buffer: a byte, a word, a decimal number, the word for a call's kind, the line of a refusal. What has no
 // place in the buffer is not written, but the place handed back counts it, so a text is measured by writing it to a buffer of
 // one byte.
+#![tactic(auto)]
+
 ghost use Rattle.std.specs.Prelude.{◌≡◌, [], ◌∷◌, ◌≤◌};
 ghost use Rattle.script.specs.Wrote.{Wrote};
 ghost use Rattle.script.specs.Decimal.{decimal, back};
@@ -12,7 +14,7 @@ ghost use Rattle.script.specs.Promise.{WritersSettled};
 const LAST_PLACE: usize = 18446744073709551615;
 
 // A number's digits, lowest first.
-#[derive(Drop)]
+#[derive(Clone, Copy)]
 struct Row {
     digits: [u8; 10],
     len: usize,

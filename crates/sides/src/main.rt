@@ -1,5 +1,7 @@
 // Both sides of the bench's limits, one line a case: what is just let through, and what is just refused.
 // It builds benches by hand, sound ones and others, and prints what a turn answers and what it changed.
+#![tactic(auto)]
+
 use bench::Bench;
 use card::{Claim, Halves};
 use libc::STDOUT_FILENO;

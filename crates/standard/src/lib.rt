@@ -1,11 +1,13 @@
 // Standard input and output for the programs, with nothing lost in silence: a read that fails is not the end of the input, and a write that fails is told.
 // What is read and written no contract can say; how many bytes of the buffer were read it does.
+#![tactic(auto)]
+
 ghost use Rattle.io.specs.Counts.{IsPrefixLen};
 
 use libc::{STDERR_FILENO, STDIN_FILENO};
 
 // How many bytes stand at the front of the buffer, and whether a read failed before the input ended or the buffer was full.
-#[derive(Drop)]
+#[derive(Clone, Copy)]
 pub struct Input {
     pub len: usize,
     pub failed: bool,

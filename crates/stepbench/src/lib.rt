@@ -1,5 +1,7 @@
 // The bench for programs in C: numbers and byte slices go in, a word comes back. include/stepbench.h tells a C programmer the same.
 // A slice is passed as a pointer and a length. No function has a `requires`, so a caller owes nothing but memory that is its own.
+#![tactic(auto)]
+
 ghost use Rattle.std.specs.Prelude.{◌≡◌};
 ghost use Rattle.sheet.specs.Report.{reported_on};
 ghost use Rattle.runfile.specs.Writing.{out_of};

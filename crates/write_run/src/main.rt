@@ -1,5 +1,7 @@
 // A text on standard input as a run file on standard output. A text that cannot be read gives one line on standard error:
 // the line of the text, and what was expected there. A text that fills the buffer may have been cut, and is not read. Reading or writing that fails is told on standard error.
+#![tactic(auto)]
+
 use libc::{STDERR_FILENO, STDOUT_FILENO};
 
 fn turned(text: &[u8], file: &mut [u8], line: &mut [u8]) {
