@@ -36,7 +36,7 @@ put_stations_spec =
     (λ c.
     let l = c.before.before.before.before.before.before in
     let a = l.before.before.args in
-    (omega arith, row_more (λ j. station_numbers (get_or a.t3 j (resting 0))) l.loop.i l.loop.invariant.1 c.before.before.put_station_lem.ensures))
+    (omega arith, row_more (λ j. station_numbers (get_or a.t3 j (resting 0))) l.loop.i l.loop.invariant.1 c.before.before.put_station.ensures))
     (λ c. same_length c.before.loop.invariant.1)
     (λ c.
     let l = c.before.loop in
