@@ -14,9 +14,10 @@ returns-then-row-lt-PLACES c =
     c.no_trace-then-row-lt-PLACES.ensures
 
 pub ran-requires : goal.ran-requires
-ran-requires c =
-    (sym (ap (λ (r : ReadAnswer). r.refused) c.read-r.ensures) ∙ c.if-r-ne0.false,
-    (front_cleared c.args.row.now _ c.if-row-lt-PLACES.false c.clear.ensures, c.read-r.ensures))
+ran-requires c = (
+  sym (ap (λ (r : ReadAnswer). r.refused) c.read-r.ensures) ∙ c.if-r-ne0.false,
+  (front_cleared c.args.row.now _ c.if-row-lt-PLACES.false c.clear.ensures, c.read-r.ensures),
+)
 
 pub returns : goal.returns
 returns c =

@@ -1,11 +1,8 @@
 -- The loop keeps: what is left to clear makes the cleared row.
-use borrow.Author.Rules.{rules}
-use mathlib.Core.Path.{◌≡◌, refl, ◌∙◌, sym}
+use mathlib.Core.Path.{◌≡◌}
 use Prim.Native.Nat.{◌-◌, ◌≤◌}
-use native.Mathlib.Omega.{arith}
-use lib.ListN.{length, length-set}
+use lib.ListN.{length}
 use Rattle.run.specs.Trace.{cleared}
-use Rattle.run.proofs.Clears.{clear_one, all_clear}
 use Rattle.run.proofs.zeros.clear.Given as goal
 
 abbrev pub invariant-loop-i : goal.invariant-loop-i
