@@ -1,6 +1,6 @@
 -- Turns of any bench: their refusals, and that they keep it sound. Assumes nothing.
-use mathlib.Core.Path.{◌≡◌, refl, ◌∙◌, sym, ap}
-use mathlib.Core.Bool.{Bool, true, false, cond, not, ◌&&◌, ◌||◌}
+use mathlib.Core.Path.{◌≡◌, refl}
+use mathlib.Core.Bool.{Bool, true, false, cond, not, ◌&&◌}
 use mathlib.Core.List.{List}
 use Prim.Native.Nat.{ℕ, ◌≤◌}
 use native.Mathlib.Omega.{arith}
@@ -16,7 +16,6 @@ use Rattle.reach.specs.Step.{count_limit, version_limit, would_begin, or_refused
 use Rattle.reach.proofs.Rest.{known}
 use Rattle.bench.specs.declared.Bench.{Bench}
 use Rattle.bench.specs.declared.Turned.{Turned}
-use Rattle.method.specs.declared.Answer.{Answer}
 use Rattle.method.specs.declared.Answer.TheVariants.{Idle, Going, Ended, Refused}
 use Rattle.method.specs.Record.{told, call}
 use Rattle.method.specs.Table.{handed, begun, row, row_at}

@@ -176,8 +176,8 @@ module _ (row : List ℕ) (s : Tally) (turn c result : ℕ) (f : RowFits row s) 
   unfolding start_of size_of
   two = written (set row (1025 + c) result) 2 c turn h ∙ ap (λ parts. wrote parts 2 c turn) (written row 1 c result h)
 
-  pub call_ends : Becomes row s (call_ends turn c result) ended_row one_ended
-  call_ends =
+  pub call_ends_lem : Becomes row s (call_ends turn c result) ended_row one_ended
+  call_ends_lem =
       record {
         notes = ap (λ parts. notes_by parts one_ended) two;
         fits = record {

@@ -54,9 +54,9 @@ by_call table P none some c =
     let z = eqb-false c 0 o.0 in
     rw u (some (c - 1) (omega (arith, ltb-false (records table) c o.1))))
 
-no_call : (table : List ℕ) (c : ℕ) → eqb c 0 ≡ true → call_of table c ≡ no_call
+no_call_lem : (table : List ℕ) (c : ℕ) → eqb c 0 ≡ true → call_of table c ≡ no_call
 unfolding call_of
-no_call table c t = rw t refl
+no_call_lem table c t = rw t refl
 
 pub record Runs (n : ℕ) (table turns : List ℕ) : Type 0 where
   pub some : 1 ≤ n
@@ -78,7 +78,7 @@ runs n table turns some few calls short clear =
             turn = λ k h. good_station n (get_or turns k 0) (nt k h);
             few = short;
             offers = λ c.
-                either_way (eqb c 0) (λ t. rw (t, no_call table c t) refl)
+                either_way (eqb c 0) (λ t. rw (t, no_call_lem table c t) refl)
                 (λ u. rw u (by_call table (λ r. bad_offer r.kind r.a r.b ≡ false) refl (λ i h. (good_call n (call_bytes table i) (nc i h)).1) c));
             calls = calls;
           };

@@ -2,7 +2,7 @@
 use mathlib.Core.Path.{◌≡◌, refl, ◌∙◌, sym, ap}
 use mathlib.Core.Logic.{⊎_elim}
 use mathlib.Core.Bool.{Bool, true, cond, ◌&&◌}
-use mathlib.Core.List.{List, [], ◌∷◌}
+use mathlib.Core.List.{List}
 use Prim.Native.Nat.{ℕ, ◌+◌, ◌<◌, ◌≤◌}
 use native.Mathlib.Omega.{arith}
 use native.Mathlib.Numerals.{add-one}
@@ -10,9 +10,6 @@ use borrow.Author.Tests.{eqb-true}
 use lib.Dec.{eqb}
 use lib.ListN.{length, get_or, set, drop}
 use lib.Seq.{drop-cons, drop-length, get_or-set_same}
-use types.Run.{OneOf}
-use denote.Enum.Declared.{tag_of}
-use Rattle.method.specs.contracts.Answer.{the_type}
 use Rattle.rules.proofs.Facts.{either_way, and_left, and_right}
 use Rattle.method.specs.declared.Place.{Place}
 use Rattle.method.specs.declared.Place.TheVariants.{Rest, At11, At12, At13, At14, At15, At16, At18, At19, At20}
@@ -198,14 +195,14 @@ module _ (n : ℕ) (start : Run) (table turns : List ℕ) (w : Bench) (row : Lis
         (begins (λ q. let n : ◌≡◌ {A = ℕ} 2 0 = ap (λ x. (Answers.told x).case) (sym e ∙ q) in omega arith))
         ∙ ap (λ x. noted table w (k + 1) i (call_for p d l) ht.own x z) (sym e)
 
-    noted_by : (x : Answer) → OneOf (0 ∷ 1 ∷ 3 ∷ []) (tag_of the_type x) → m.answer ≡ x → (z : Book)
+    noted_by : (x : Answer) → ((result took : ℕ) → x ≡ Ended result took → ⊥) → m.answer ≡ x → (z : Book)
         → unended x (errand_of p (k + 1) i d l) (operation_of t w.v ht.own w.n) (part_of row 8) (part_of row 6) z ≡ noted table w (k + 1) i (call_for p d l) ht.own x z
     unfolding unended noted
     noted_by Idle f e z = refl
     noted_by Going f e z =
         going_noted w table (part_of row 8) (part_of row 6) i d l (k + 1) kept.notes.after (kept.notes.mine i inside) kept.notes.waiting few ht.own z
         (begins (λ q. let n : ◌≡◌ {A = ℕ} 1 0 = ap (λ x. (Answers.told x).case) (sym e ∙ q) in omega arith))
-    noted_by (Ended result took) f e z = absurd (⊎_elim (λ q. omega arith) (λ g. ⊎_elim (λ q. omega arith) (λ q. omega arith) g) f)
+    noted_by (Ended result took) f e z = absurd (f result took refl)
     noted_by (Refused number) f e z = refl
 
     -- the step of the run
@@ -242,7 +239,7 @@ module _ (n : ℕ) (start : Run) (table turns : List ℕ) (w : Bench) (row : Lis
         rw z at r.1.1.0
 
     -- a turn that did not end its call, by what the book then holds
-    pub after_going : (errand : Errand) (o : Operation) (r : Tally) (waiting : ℕ) (row' : List ℕ) → OneOf (0 ∷ 1 ∷ 3 ∷ []) (tag_of the_type m.answer) → errand ≡ e
+    pub after_going : (errand : Errand) (o : Operation) (r : Tally) (waiting : ℕ) (row' : List ℕ) → ((result took : ℕ) → m.answer ≡ Ended result took → ⊥) → errand ≡ e
         → o ≡ operation_of t w.v ht.own n → waiting ≡ waits ht → Becomes row s (unended m.answer errand o (part_of row 8) (part_of row 6)) row' r
         → Kept n start table turns w' (set row' (5158 + i) waiting) r (k + 1)
     after_going errand o r waiting row' f errand_is o_is waits-is a =
