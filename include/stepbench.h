@@ -1,11 +1,11 @@
 /* The step bench for programs in C: run files in, reports out.
  *
- *     rt staticlib stepbench                          # proves it and writes target/staticlib/libstepbench.a (x86-64 Linux)
- *     gcc -Iinclude YOURS.c target/staticlib/libstepbench.a
+ *     (cd crates/stepbench && rt lib)       # proves it and writes crates/stepbench/out/libstepbench.a (x86-64 Linux)
+ *     gcc -Iinclude YOURS.c crates/stepbench/out/libstepbench.a
  *
- * tools/example/report.c is a short program over it; tools/rack/rack.c tries every function. On a machine that is not
- * x86-64 tools/x86/cc links and tools/x86/run runs such a program. Each function is proved to do, for all inputs, what
- * crates/stepbench/src/lib.rt states in its `ensures`; this header tells the same in words, and is not itself proved.
+ * tools/example/report.c is a short program over it; tools/rack/rack.c tries every function. Each function is proved to
+ * do, for all inputs, what crates/stepbench/src/lib.rt states in its `ensures`; this header tells the same in words, and
+ * is not itself proved.
  *
  * Every function
  *   - is total: it takes any bytes of any length, refuses what is wrong with them by number, and ends;

@@ -8,7 +8,7 @@ use crate::fault;
 use crate::library::{Answer, Function};
 use crate::make;
 use crate::naive;
-use crate::other::{sample, top, Other};
+use crate::other::{top, Other, SAMPLE};
 use crate::random::Random;
 use crate::report::{print, ENOUGH};
 use crate::run::run;
@@ -35,10 +35,10 @@ enum Depth {
 }
 
 impl Depth {
-    /// About `sample()` of so many files go through the programs.
+    /// About `SAMPLE` of so many files go through the programs.
     fn some(seed: u64, of: u64) -> Depth {
         let mut random = Random::new(seed ^ 0x7361_6d70_6c65);
-        if random.once_in((of / sample()).max(1) as usize) {
+        if random.once_in((of / SAMPLE).max(1) as usize) {
             Depth::Process
         } else if random.once_in(TEXT_IN) {
             Depth::Text
@@ -48,7 +48,7 @@ impl Depth {
     }
 
     fn of_large(seed: u64) -> Depth {
-        if seed < 40 * sample() {
+        if seed < 40 * SAMPLE {
             Depth::Process
         } else {
             Depth::Text
@@ -105,7 +105,7 @@ impl Comparison {
             self.file(&file, &mut random, Depth::some(!seed, damaged))?;
         }
         self.written.cases(&mut self.other, (runs + damaged) / WRITER_IN)?;
-        self.texts.complaints(&mut self.other, WRONG_TEXTS, 1_250 / sample())?;
+        self.texts.complaints(&mut self.other, WRONG_TEXTS, 1_250 / SAMPLE)?;
         self.other.end()
     }
 

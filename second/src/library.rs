@@ -3,7 +3,7 @@
 
 use crate::difference::Difference;
 use crate::later::Later;
-use crate::other::{started, top};
+use crate::other::{started, top, ARCHIVE};
 use crate::random::Random;
 use crate::runfile::Refusal;
 use std::io::{BufReader, Read, Write};
@@ -115,8 +115,7 @@ pub struct Library {
 impl Library {
     /// The server, if it and the library are built.
     pub fn find() -> Option<Library> {
-        let (path, archive) =
-            (top().join("target/rack/serve"), top().join("target/staticlib/libstepbench.a"));
+        let (path, archive) = (top().join("target/rack/serve"), top().join(ARCHIVE));
         let mut command = (path.is_file() && archive.is_file()).then(|| started(&path))?;
         let mut child = command.stdin(Stdio::piped()).stdout(Stdio::piped()).spawn().ok()?;
         let mut from: BufReader<ChildStdout> = BufReader::new(child.stdout.take()?);

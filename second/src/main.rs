@@ -181,7 +181,7 @@ fn compare_all(runs: u64, damaged: u64) -> ExitCode {
 fn compare_probes(count: u64) -> ExitCode {
     let seen = match probed::compare(count) {
         None => {
-            complain("nothing compared; not built: target/bin/probe\n");
+            complain(&format!("nothing compared; not built: {}\n", other::program("probe")));
             return ExitCode::from(2);
         }
         Some(Err(difference)) => return show(&difference),

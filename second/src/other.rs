@@ -13,7 +13,15 @@ pub fn top() -> &'static Path {
     here.parent().unwrap_or(here)
 }
 
-/// A program for x86-64, on any machine.
+/// The bench's static library, below the root.
+pub const ARCHIVE: &str = "crates/stepbench/out/libstepbench.a";
+
+/// A program of the bench, below the root.
+pub fn program(name: &str) -> String {
+    format!("crates/{name}/out/{name}")
+}
+
+/// A program for x86-64.
 pub fn started(program: &Path) -> Command {
     let mut command = Command::new(top().join("tools/x86/run"));
     command.arg(program);
@@ -34,16 +42,10 @@ pub fn run(command: &mut Command, input: &[u8]) -> std::io::Result<(Vec<u8>, Vec
 }
 
 /// About this many runs, and as many damaged files, go through the bench's programs: a process takes a
-/// millisecond or two, and under an emulator thirty.
-pub fn sample() -> u64 {
-    if cfg!(target_arch = "x86_64") {
-        500
-    } else {
-        50
-    }
-}
+/// millisecond or two.
+pub const SAMPLE: u64 = 500;
 
-/// A program of target/bin, its input, and what it must write to standard output and standard error.
+/// A program of the bench, its input, and what it must write to standard output and standard error.
 struct Started {
     name: &'static str,
     input: Vec<u8>,
@@ -54,7 +56,7 @@ struct Started {
 impl Started {
     fn check(&self) -> Result<(), Difference> {
         let Started { name, input, out, err } = self;
-        let path = top().join("target/bin").join(name);
+        let path = top().join(program(name));
         let told = |error| Difference::new(&format!("{}: {error}", path.display()), input, &[], &[]);
         let theirs = run(&mut started(&path), input).map_err(told)?;
         if theirs.0 != *out {
@@ -78,7 +80,7 @@ const PROGRAMS: [&str; 3] = ["report", "read_run", "write_run"];
 
 impl Other {
     pub fn find() -> Other {
-        let built = |name: &&str| top().join("target/bin").join(name).is_file();
+        let built = |name: &&str| top().join(program(name)).is_file();
         let programs = PROGRAMS.into_iter().filter(built).collect();
         Other {
             library: Library::find(),
@@ -90,8 +92,8 @@ impl Other {
     /// What is not built.
     pub fn missing(&self) -> Vec<String> {
         let programs = PROGRAMS.iter().filter(|name| !self.programs.contains(name));
-        let programs = programs.map(|name| format!("target/bin/{name}"));
-        let library = self.library.is_none().then(|| "target/staticlib/libstepbench.a".into());
+        let programs = programs.map(|name| program(name));
+        let library = self.library.is_none().then(|| ARCHIVE.into());
         library.into_iter().chain(programs).collect()
     }
 

@@ -2,7 +2,7 @@
 
 use crate::difference::Difference;
 use crate::ill_formed;
-use crate::other::{run, started, top};
+use crate::other::{program, run, started, top};
 use crate::probe::{line, probe};
 use crate::probes::{cases, spoils, ANEW};
 use crate::seen::Seen;
@@ -22,7 +22,7 @@ fn other_side() -> Option<Command> {
         command.args(words);
         return Some(command);
     }
-    let path = top().join("target/bin/probe");
+    let path = top().join(program("probe"));
     path.is_file().then(|| started(&path))
 }
 

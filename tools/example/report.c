@@ -1,7 +1,7 @@
 /* How a program in C uses the bench: the report of a run file on standard output, or why the file is refused.
  *
- *     rt staticlib stepbench
- *     gcc -Iinclude tools/example/report.c target/staticlib/libstepbench.a -o report_in_c
+ *     (cd crates/stepbench && rt lib)
+ *     gcc -Iinclude tools/example/report.c crates/stepbench/out/libstepbench.a -o report_in_c
  *     ./report_in_c runs/r1.run
  *
  * Exit status: 0 done, 1 refused, 2 used wrongly, 3 reading or writing failed. */

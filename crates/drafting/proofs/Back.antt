@@ -29,7 +29,7 @@ use Rattle.drafting.specs.declared.Stage.TheVariants.{StartValue, Stations, Coun
 use Rattle.drafting.specs.Draft.{no_number, same_bytes, draft, took_start, took_count, took_station, took_kind, took_first, took_second, took_turn, took_at, made_call, ended_at, lacking_at, call_from, turn_from}
 use Rattle.drafting.specs.Scan.{Scanned, scan, empty, no_scan, word_ended, line_ended, step_on, step, run, given}
 use Rattle.drafting.specs.Parse.{last_draft, lacking, table_in, turns_in}
-use Rattle.drafting.proofs.Sane.{no_call, no_turn}
+use Rattle.drafting.proofs.Sane.{no_call_made, no_turn_made}
 use Rattle.drafting.proofs.Goes.{Goes, stays, both, byte_goes, quiet_byte, plain, word_goes, number_told, number_there, number_other, number_goes}
 
 abbrev call : ℕ → ℕ → ℕ → ℕ → CallRecord
@@ -74,7 +74,7 @@ module _ (line x n q : ℕ) (h : q < call_limit) (k : n ≤ station_limit) (c₀
   made s c e f g =
       let b = byte_goes s (to c) newline e in
       let z : eqb s.draft.q (q + 1) ≡ false = ne_eqb s.draft.q (q + 1) (λ y. omega arith) in
-      record { ends = b.ends; calls = b.calls ∙ rw z; turned = b.turned ∙ no_turn s.draft.t (to c).draft g }
+      record { ends = b.ends; calls = b.calls ∙ rw z; turned = b.turned ∙ no_turn_made s.draft.t (to c).draft g }
 
   module _ (v : ℕ) (some : 0 < v) (few : v ≤ n) where
     station_taken : step (scan line false (decimal v) (draft 0 Call x n q 0 c₀)) space ≡ scan line false [] (draft 0 Kind x n q 0 (call v 0 0 0))
@@ -174,7 +174,7 @@ module _ (line x n q t : ℕ) (c₀ : CallRecord) (h : t < turn_limit) (k : n �
       let y = byte_goes s (turned_to l) b e in
       let z : eqb s.draft.t (t + 1) ≡ false = ne_eqb s.draft.t (t + 1) (λ y. omega arith) in
       let small : v % 256 ≡ v = mod-eq_of_lt (omega arith) in
-      record { ends = y.ends; calls = y.calls ∙ no_call s.draft.q (turned_to l).draft f; turned = y.turned ∙ rw (z, small) }
+      record { ends = y.ends; calls = y.calls ∙ no_call_made s.draft.q (turned_to l).draft f; turned = y.turned ∙ rw (z, small) }
 
   by_space : step (scan line false (decimal v) (draft 0 Turn x n q t c₀)) space ≡ turned_to line
   unfolding step step_on word_ended took_at took_turn
@@ -218,8 +218,8 @@ told_by text line x n q t stage c table turns e l g =
       all = rw d l;
       value = rw d;
       stations = rw d;
-      calls = rw (g.calls, g.ends, e, no_call q D refl) (append-nil table);
-      moves = rw (g.turned, g.ends, e, no_turn t D refl) (append-nil turns);
+      calls = rw (g.calls, g.ends, e, no_call_made q D refl) (append-nil table);
+      moves = rw (g.turned, g.ends, e, no_turn_made t D refl) (append-nil turns);
     }
 
 module _ (x n : ℕ) (table turns : List ℕ) (h : AllBytes table) (g : GoodRun x n table turns) where

@@ -14,7 +14,7 @@ use Rattle.drafting.specs.declared.Stage.{Stage}
 use Rattle.drafting.specs.declared.Stage.TheVariants.{Start, StartValue, AfterStart, Stations, Count, AfterCount, Call, Kind, First, Second, AfterCall, Turn}
 use Rattle.drafting.specs.declared.Draft.{Draft}
 use Rattle.drafting.specs.declared.Scan.{Scan}
-use Rattle.drafting.specs.Draft.{number_from, same_bytes, said, took_start, took_count, took_station, took_kind, took_first, took_second, took_turn, took_at}
+use Rattle.drafting.specs.Draft.{number_more, number_from, same_bytes, said, took_start, took_count, took_station, took_kind, took_first, took_second, took_turn, took_at}
 use Rattle.drafting.specs.Scan.{Scanned, empty, word_ended, line_ended, next_line, is_blank, step_on, step}
 use Rattle.drafting.specs.Coded.{no_word, no_code, is_letter, code_more, code_from, grown, coded, code_said, code_scan, coded_scan}
 use Rattle.drafting.proofs.Numbers.{letter}
@@ -110,7 +110,7 @@ code_both c (x ∷ xs) ys = code_both (code_more c x) xs ys
 pub number_both : (c : ℕ) (xs ys : List ℕ) → number_from c (xs ++ ys) ≡ number_from (number_from c xs) ys
 unfolding number_from
 number_both c [] ys = refl
-number_both c (x ∷ xs) ys = number_both _ xs ys
+number_both c (x ∷ xs) ys = number_both (number_more c x) xs ys
 
 pub coded_more : (w : List ℕ) (b : ℕ) → grown (coded w) b ≡ coded (w ++ (b ∷ []))
 unfolding grown code_from number_from

@@ -17,7 +17,7 @@ use Rattle.drafting.specs.Draft.{no_number, number_from, same_bytes, draft, call
 use Rattle.drafting.specs.Scan.{Scanned, scan, empty, is_blank, step_on, step, run, given}
 use Rattle.drafting.proofs.Codes.{number_both}
 use Rattle.drafting.proofs.Scans.{run_both, given_both}
-use Rattle.drafting.proofs.Sane.{no_call, no_turn}
+use Rattle.drafting.proofs.Sane.{no_call_made, no_turn_made}
 
 -- from one scan to another, with what is given on the way
 pub record Goes (s : Scanned) (text : List ℕ) (s' : Scanned) (rows moves : List ℕ) : Type 0 where
@@ -45,7 +45,7 @@ byte_goes s s' b e = rw (← e) (record { ends = refl; calls = append-nil (call_
 pub quiet_byte : (s s' : Scanned) (b : ℕ) → step s b ≡ s' → s.draft.q ≡ s'.draft.q → s.draft.t ≡ s'.draft.t → Goes s (b ∷ []) s' [] []
 quiet_byte s s' b e f g =
     let h = byte_goes s s' b e in
-    record { ends = h.ends; calls = h.calls ∙ no_call s.draft.q s'.draft f; turned = h.turned ∙ no_turn s.draft.t s'.draft g }
+    record { ends = h.ends; calls = h.calls ∙ no_call_made s.draft.q s'.draft f; turned = h.turned ∙ no_turn_made s.draft.t s'.draft g }
 
 -- bytes that belong to a word
 abbrev is_plain : ℕ → Bool

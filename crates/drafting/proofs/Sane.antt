@@ -76,13 +76,13 @@ abbrev Sane : Draft → List ℕ → List ℕ → Type 0
 Sane d table turns = Common d.x d.n d.q d.t table turns × At d.stage d
 
 -- nothing is added where the count is the same
-pub no_call : (q : ℕ) (d : Draft) → q ≡ d.q → call_from q d ≡ []
+pub no_call_made : (q : ℕ) (d : Draft) → q ≡ d.q → call_from q d ≡ []
 unfolding call_from
-no_call q d e = rw (eq-eqb q d.q e)
+no_call_made q d e = rw (eq-eqb q d.q e)
 
-pub no_turn : (t : ℕ) (d : Draft) → t ≡ d.t → turn_from t d ≡ []
+pub no_turn_made : (t : ℕ) (d : Draft) → t ≡ d.t → turn_from t d ≡ []
 unfolding turn_from
-no_turn t d e = rw (eq-eqb t d.t e)
+no_turn_made t d e = rw (eq-eqb t d.t e)
 
 -- what a draft adds to the turns goes by its count and by its last call
 same_turn : (d d₁ d₂ : Draft) → d₂.t ≡ d₁.t → d₂.call ≡ d₁.call → turn_made d d₁ ≡ turn_made d d₂
@@ -91,7 +91,7 @@ same_turn d d₁ d₂ e f = rw (e, f)
 
 module _ (table turns : List ℕ) where
   kept : (d d' : Draft) → d.t ≡ d'.t → Sane d' table turns → Sane d' table (turns ++ turn_made d d')
-  kept d d' e s = rw (no_turn d.t d' e, append-nil) s
+  kept d d' e s = rw (no_turn_made d.t d' e, append-nil) s
 
   -- from one draft to the next but one
   joined : (d d₁ d₂ : Draft) → d₁.q ≡ d.q → d₂.t ≡ d₁.t → d₂.call ≡ d₁.call
@@ -209,7 +209,7 @@ module _ (d : Draft) (table turns : List ℕ) (c : Common d.x d.n d.q d.t table 
   Q d' = (d'.t ≡ d.t) × ((d'.call ≡ d.call) × Sane d' (table ++ call_made d d') turns)
 
   no_more : (d' : Draft) → d.q ≡ d'.q → d'.t ≡ d.t → d'.call ≡ d.call → Sane d' table turns → Q d'
-  no_more d' e f k s = (f, (k, rw (no_call d.q d' e, append-nil) s))
+  no_more d' e f k s = (f, (k, rw (no_call_made d.q d' e, append-nil) s))
 
   lacks : At d.stage d → (k : ℕ) → Q (refuse d k)
   lacks h k = no_more (refuse d k) refl refl refl (c, h)
@@ -267,17 +267,17 @@ module _ (s : Scanned) (table turns : List ℕ) (y : Sane s.draft table turns) w
   R d' = Sane d' (table ++ call_made d d') (turns ++ turn_made d d')
 
   idle : R s.draft
-  idle = rw (no_call d.q d refl, no_turn d.t d refl, append-nil table, append-nil turns) y
+  idle = rw (no_call_made d.q d refl, no_turn_made d.t d refl, append-nil table, append-nil turns) y
 
   word_told : ((word_ended s).q ≡ s.draft.q) × Sane (word_ended s) table (turns ++ turn_made s.draft (word_ended s))
   unfolding word_ended
   word_told =
       by_cond (λ d'. (d'.q ≡ d.q) × Sane d' table (turns ++ turn_made d d')) (empty s.word)
-      (λ t. (refl, rw (no_turn d.t d refl, append-nil) y))
+      (λ t. (refl, rw (no_turn_made d.t d refl, append-nil) y))
       (λ f. took d (said s.word) table turns y.0 d.stage refl y.1)
 
   word_over : R (word_ended s)
-  word_over = let w = word_told in rw (no_call d.q (word_ended s) (sym w.0), append-nil) w.1
+  word_over = let w = word_told in rw (no_call_made d.q (word_ended s) (sym w.0), append-nil) w.1
 
   line_over : R (line_ended s)
   unfolding line_ended

@@ -170,7 +170,7 @@ acting {k} {e} rests i c d turns g h own f = doing (chosen (BookWithin (k + 1) e
 all_entering : {k e : ℕ} {b : Book} (turn : ℕ) (js : List ℕ) → 1 ≤ turn → turn ≤ k → BookWithin k e b → BookWithin k e (all_enter turn js b)
 unfolding all_enter
 all_entering turn [] low high f = f
-all_entering turn (j ∷ js) low high f = all_entering turn js low high (entering f turn j low high)
+all_entering {b = b} turn (j ∷ js) low high f = all_entering {b = enters turn j b} turn js low high (entering f turn j low high)
 
 -- a station's call that comes after another, or none
 pub call_after_lem : (table : List ℕ) (i c : ℕ) → records table ≤ call_limit → call_after table i c < by_call

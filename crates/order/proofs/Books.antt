@@ -124,7 +124,7 @@ module _ {b : Book} {g : Journal} (m : Matches b g) where
 pub all_enter_matches : {b : Book} {g : Journal} (now : ℕ) (js : List ℕ) → Matches b g → Matches (Book.all_enter now js b) (all_enter now js g)
 unfolding Book.all_enter all_enter
 all_enter_matches now [] m = m
-all_enter_matches now (j ∷ js) m = all_enter_matches now js (enters_matches m now j)
+all_enter_matches {b = b} {g = g} now (j ∷ js) m = all_enter_matches {b = Book.enters now j b} {g = enters now j g} now js (enters_matches m now j)
 
 -- one turn for call e on offer: `own` is what a call that goes on has had then
 module _ {b : Book} {g : Journal} (m : Matches b g) (table : List ℕ) (w : Bench) (now e own : ℕ) (u : Turn) (small : e < 1025) where

@@ -12,7 +12,7 @@ use Rattle.method.proofs.Upd.{upd_other}
 use Rattle.method.proofs.Inv.{values}
 use Rattle.bench.specs.declared.Bench.{Bench}
 use Rattle.bench.specs.Record.{station_at}
-use Rattle.bench.specs.Promise.{Turn, turn_by, after}
+use Rattle.bench.specs.Promise.{Turn, turn_by}
 use Rattle.order.specs.Journal.{Journal, log_in, logged}
 use Rattle.order.specs.Accepted.{times, Fits, Accepted}
 use Rattle.order.specs.Demand.{Pairs, Demand3}

@@ -8,7 +8,7 @@ use borrow.Author.Tests.{eqb-true, eqb-false}
 use lib.Dec.{eqb}
 use Rattle.rules.proofs.Facts.{either_way}
 use Rattle.method.specs.Update.{upd}
-use Rattle.method.specs.Watch.{Event, Point, Watcher, watch, EventFits, Good}
+use Rattle.method.specs.Watch.{Event, Point, Watcher, point_served, watch, EventFits, Good}
 use Rattle.method.proofs.Upd.{upd_same, upd_other, upd_all}
 use Rattle.order.specs.Journal.{Journal, enters, all_enter}
 use Rattle.order.specs.Accepted.{times}
@@ -68,4 +68,4 @@ all_entered {now = now} t es {m = m} {g = g} (j ∷ js) k h =
     let g' = all_enter now js (enters now j g) in
     enters_too g.point g.list (g.latest j) s.1
     (subst (λ (f : Journal). Entered now (map f.latest js) f.point g'.point f.list g'.list) s.0
-    (all_entered t es js (point_event t k j (m.phase j) h.0 (k.stands j)) h.1))
+    (all_entered t es {m = point_served j m (m.phase j)} {g = enters now j g} js (point_event t k j (m.phase j) h.0 (k.stands j)) h.1))

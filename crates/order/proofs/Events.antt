@@ -58,7 +58,7 @@ module _ {x now : ℕ} (t : 1 ≤ now) (es : List Event) (P : Watcher → Type 0
       → ((m' : Watcher) → Kept x now owns m' (all_enter now js g) → Good m' es → P (watched m' es)) → P (watched m (map Point js ++ es))
   unfolding Good EventFits watched watch all_enter
   through_points {owns} {m} {g} [] k h then = then m k h
-  through_points {owns} {m} {g} (j ∷ js) k h then = through_points js (point_event t k j (m.phase j) h.0 (k.stands j)) h.1 then
+  through_points {owns} {m} {g} (j ∷ js) k h then = through_points {m = point_served j m (m.phase j)} {g = enters now j g} js (point_event t k j (m.phase j) h.0 (k.stands j)) h.1 then
 
 pub through_end : {x now : ℕ} {owns owns' : ℕ → ℕ} {m : Watcher} {g : Journal} → 1 ≤ now → (i result : ℕ) → ((j : ℕ) → (j ≡ i → ⊥) → owns' j ≡ owns j)
     → Kept x now owns m g → Good m (End i result ∷ []) → Kept x now owns' (watched m (End i result ∷ [])) (ends now i result g)

@@ -122,9 +122,9 @@ filed_run : {x n : ℕ} {table : List ℕ} {s : Run} {g : Journal} (steps : List
     → FiledRun x n table steps (run_from table s is) (journal_run table s g is)
 unfolding run_from steps_run journal_run
 filed_run steps [] calls good a h = record { filed = h; whole = a }
-filed_run steps (i ∷ is) calls good a h =
+filed_run {table = table} {s = s} {g = g} steps (i ∷ is) calls good a h =
     let t = good 0 (omega arith) in
-    filed_run steps is calls (λ k l. good (suc k) (omega arith)) (next_ahead a) (files_on h calls i t.0 t.1 a)
+    filed_run {s = step_run table s i} {g = journal_step table s g i} steps is calls (λ k l. good (suc k) (omega arith)) (next_ahead a) (files_on h calls i t.0 t.1 a)
 
 -- from a fresh bench and an empty book
 filed_start : (x n : ℕ) (table : List ℕ) (steps : List Step) → 1 ≤ n → n ≤ 32 → Filed x n table steps (record { bench = blank x n; turns = 0; book = empty_book table }) no_calls

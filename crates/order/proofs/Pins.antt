@@ -137,7 +137,7 @@ module _ (steps : List Step) (now : ℕ) {g : Journal} (p : Pins steps now g) wh
   opening_is : (acts rests : Bool) → acts ≡ true → (opening (acts && rests) (suc now) s.offer i o g).latest i ≡ cond rests s.offer (g.latest i)
   opening_is true true e = upd_same g.latest i s.offer
   opening_is true false e = refl
-  opening_is false rests e = absurd (false≢true e)
+  opening_is false _ e = absurd (false≢true e)
 
   call_is : operates (answer_of s) ≡ true → call_in steps (suc now) ≡ l
   call_is e = sym (latest_now i) ∙ opening_is (operates (answer_of s)) rests e

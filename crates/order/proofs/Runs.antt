@@ -73,7 +73,7 @@ runs steps [] a h p wait = ran a h p
 runs {x} {k} {w} {g} steps (u ∷ us) a h p wait =
     let free : operates (turn_by w u).answer ≡ true → at_rest (station_at w u.station).place ≡ true → Unbegun g (k + 1) =
     λ o r. (omega arith, wait (k + 1) (omega arith)) in
-    runs steps us (next_ahead a) (turn_held h (k + 1) u free) (next_pins a h p free)
+    runs {k = k + 1} {w = (turn_by w u).bench} {g = logged w (k + 1) (k + 1) u (turn_by w u).answer g} steps us (next_ahead a) (turn_held h (k + 1) u free) (next_pins a h p free)
     (λ c l. others_wait w (k + 1) (k + 1) u g c (λ e. omega arith) ∙ wait c (omega arith))
 
 -- the run of any turns from a fresh bench, with its journal

@@ -1,8 +1,6 @@
 -- A raise is for the call that the saved pid's station is in: the latest claim is P as it stands, and its station contends. Assumes nothing.
-use mathlib.Core.Path.{◌≡◌, refl, ap, ◌∙◌}
+use mathlib.Core.Path.{◌≡◌, refl}
 use mathlib.Core.Bool.{true, false≢true}
-use mathlib.Core.List.{List}
-use Prim.Native.Nat.{ℕ, ◌+◌, ◌<◌}
 use native.Mathlib.Omega.{arith}
 use borrow.Author.Tests.{ltb-true}
 use lib.Dec.{eqb, ltb}
@@ -14,8 +12,8 @@ use Rattle.method.proofs.Kept.{stands_at}
 use Rattle.method.proofs.Effects.{latest}
 use Rattle.bench.specs.Record.{station_at}
 use Rattle.bench.specs.Turn.{fresh_of}
-use Rattle.bench.specs.Promise.{Turn, after}
-use Rattle.order.specs.Winners.{Wins, WinnersAreNamed}
+use Rattle.bench.specs.Promise.{after}
+use Rattle.order.specs.Winners.{WinnersAreNamed}
 use Rattle.order.proofs.Runs.{every_journal}
 
 at_19 : (p : Place) → eqb (num p) 19 ≡ true → p ≡ At19

@@ -16,6 +16,7 @@ pub(crate) fn cell(row: &[u32], i: usize) -> u32
     0
 }
 
+#[tactic(auto, unfolding(crate::specs::Numbers::place_of))]
 fn place_of(x: u32) -> Place
     ensures { result ≡ place_of x }
 {

@@ -2,26 +2,24 @@
 // The buffer is longer than any good file, so one that is too long is refused 1 and not cut down. Reading or writing that fails is told on standard error.
 #![tactic(auto)]
 
-use libc::{STDERR_FILENO, STDOUT_FILENO};
-
-fn printed(file: &[u8], text: &mut [u8]) {
+fn printed(out: &impl Print, err: &impl Print, file: &[u8], text: &mut [u8]) {
+    let lost = b"read_run: writing failed\n";
     let r = runtext::output(file, text);
-    let fd = if r.refused {
-        STDERR_FILENO
+    if r.refused {
+        standard::write_front(err, err, text, r.len, lost);
     } else {
-        STDOUT_FILENO
-    };
-    standard::write_front(fd, text, r.len, b"read_run: writing failed\n");
+        standard::write_front(out, err, text, r.len, lost);
+    }
 }
 
-fn main() {
-    let mut file = io::large_buffer();
+fn main(rt: HostRuntime) {
+    let mut file = [0u8; 65536];
     let mut text = [0u8; 153635];
-    let got = standard::read_input(&mut file);
+    let got = standard::read_input(&mut rt.stdin(), &mut file);
     if got.failed {
-        io::write_all(STDERR_FILENO, b"read_run: reading failed\n");
+        let _ = eprintln!(rt; "read_run: reading failed");
         return;
     }
     let len = got.len;
-    printed(&file[..len], &mut text);
+    printed(&rt.stdout(), &rt.stderr(), &file[..len], &mut text);
 }

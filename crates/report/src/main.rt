@@ -3,21 +3,19 @@
 // is refused 1 and not cut down; what is written has 40,960 bytes at most. Reading or writing that fails is told on standard error.
 #![tactic(auto)]
 
-use libc::{STDERR_FILENO, STDOUT_FILENO};
-
-fn reported(file: &[u8], text: &mut [u8]) {
+fn reported(out: &impl Print, err: &impl Print, file: &[u8], text: &mut [u8]) {
     let len = sheet::output(file, text);
-    standard::write_front(STDOUT_FILENO, text, len, b"report: writing failed\n");
+    standard::write_front(out, err, text, len, b"report: writing failed\n");
 }
 
-fn main() {
-    let mut file = io::large_buffer();
+fn main(rt: HostRuntime) {
+    let mut file = [0u8; 65536];
     let mut text = [0u8; 40960];
-    let got = standard::read_input(&mut file);
+    let got = standard::read_input(&mut rt.stdin(), &mut file);
     if got.failed {
-        io::write_all(STDERR_FILENO, b"report: reading failed\n");
+        let _ = eprintln!(rt; "report: reading failed");
         return;
     }
     let len = got.len;
-    reported(&file[..len], &mut text);
+    reported(&rt.stdout(), &rt.stderr(), &file[..len], &mut text);
 }

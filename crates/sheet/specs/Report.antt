@@ -1,5 +1,5 @@
 -- Document 01, "Report": the report of a file, its refusals, and what is promised of it. Assumes nothing.
-use Rattle.std.specs.Prelude.{◌≡◌, cond, List, ◌++◌, ℕ, ◌-◌, ◌≤◌, eqb, ltb, length, drop}
+use Rattle.std.specs.Prelude.{◌≡◌, cond, List, ◌++◌, ℕ, ◌≤◌, eqb, ltb, length, drop}
 use Rattle.octets.specs.Bytes.{AllBytes}
 use Rattle.runfile.specs.Reading.{read_of, table_of}
 use Rattle.run.specs.Run.{Run}

@@ -2,9 +2,9 @@
 // What is read and written no contract can say; how many bytes of the buffer were read it does.
 #![tactic(auto)]
 
-ghost use Rattle.io.specs.Counts.{IsPrefixLen};
+ghost use Rattle.standard.specs.Counts.{IsPrefixLen};
 
-use libc::{STDERR_FILENO, STDIN_FILENO};
+use std::io::Read;
 
 // How many bytes stand at the front of the buffer, and whether a read failed before the input ended or the buffer was full.
 #[derive(Clone, Copy)]
@@ -13,24 +13,47 @@ pub struct Input {
     pub failed: bool,
 }
 
-// One more read tells the end of the input from a read that failed.
-pub fn read_input(buf: &mut [u8]) -> Input
+// Reads until the buffer is full, the input ends or a read fails.
+fn read_full(from: &mut impl Read, buf: &mut [u8]) -> Input
     ensures { IsPrefixLen result.len buf.new }
 {
-    let len = io::read_full(STDIN_FILENO, buf);
+    let mut len = 0;
+    while len < buf.len() {
+        match from.read(&mut buf[len..]) {
+            Ok(0) => return Input { len, failed: false },
+            Ok(n) => len += n,
+            Err(_) => return Input { len, failed: true },
+        }
+    }
+    Input { len, failed: false }
+}
+
+// One more read: the end of the input is still its end, and after a full buffer it tells a longer input from a read that failed.
+pub fn read_input(from: &mut impl Read, buf: &mut [u8]) -> Input
+    ensures { IsPrefixLen result.len buf.new }
+{
+    let got = read_full(from, buf);
+    if got.failed {
+        return got;
+    }
     let mut one = [0u8; 1];
-    let more = libc::read(STDIN_FILENO, &mut one);
-    let full = len == buf.len();
-    let failed = if full { more < 0 } else { more != 0 };
-    Input { len, failed }
+    let full = got.len == buf.len();
+    let failed = match from.read(&mut one) {
+        Ok(more) => !full & (more != 0),
+        Err(_) => true,
+    };
+    Input {
+        len: got.len,
+        failed,
+    }
 }
 
 // Writes the front of a buffer. Where that fails, the line lost goes to standard error.
-pub fn write_front(fd: i32, buf: &[u8], len: usize, lost: &[u8]) {
+pub fn write_front(to: &impl Print, err: &impl Print, buf: &[u8], len: usize, lost: &[u8]) {
     if len <= buf.len() {
-        if io::write_all(fd, &buf[0..len]) {
+        if to.write_all(&buf[0..len]).is_ok() {
             return;
         }
     }
-    io::write_all(STDERR_FILENO, lost);
+    let _ = err.write_all(lost);
 }

@@ -1,9 +1,7 @@
 use mathlib.Core.Path.{◌∙◌, sym}
 use Prim.Native.Nat.{◌<◌}
-use lib.Dec.{eqb, ltb}
 use native.Mathlib.Omega.{arith}
-use borrow.Author.Tests.{ltb-false}
-use Rattle.rules.proofs.Facts.{or_none}
+use Rattle.std.proofs.lemmas.Bool.Decides.{nat_tests}
 use Rattle.reach.specs.Step.{step_of}
 use Rattle.bench.specs.Turn.{turn_of}
 use Rattle.bench.proofs.Sounds.{facts}
@@ -12,10 +10,8 @@ use Rattle.bench.proofs.Bench.turn.Goals.{Else-station-n}
 
 no_more : (c : Else-station-n) → c.args.station < 33
 no_more c =
-    let k = c.args.station in
-    let w = c.args.self in
-    let few = (facts w (sym c.sound.ensures ∙ c.if-not-sound.false)).head.0.1.0 in
-    omega (arith, few, ltb-false w.n k (or_none (eqb k 0) (ltb w.n k) c.if-station-n.false).1)
+    let few = (facts c.args.self (sym c.sound.ensures ∙ c.if-not-sound.false)).head.0.1.0 in
+    let none = c.if-station-n.false in grind (arith, nat_tests, few)
 
 pub returns-then-not-sound : goal.returns-then-not-sound
 unfolding turn_of step_of
