@@ -27,16 +27,16 @@ bounds-row-at-2 c =
 pub bounds-row-end : goal.bounds-row-end
 bounds-row-end c =
     let a = c.args in
-    let free : a.s.listed < 1025 = place a.row.now a.s a.j a.turn c.requires.0 c.requires.1.0 c.requires.1.1 c.if-c-eq0.false c.if-row-at-ne0.false in
+    let free : a.s.listed < 1025 = place a.row.now a.s a.j a.turn c.requires.0 c.requires.1.0 c.requires.1.1 c.if-c-eq0.false (omega arith) in
     simp length-set (omega (arith, free))
 
 pub overflow_add-result : goal.overflow_add-result
 overflow_add-result c =
     let a = c.args in
-    let free : a.s.listed < 1025 = place a.row.now a.s a.j a.turn c.requires.0 c.requires.1.0 c.requires.1.1 c.if-c-eq0.false c.if-row-at-ne0.false in
+    let free : a.s.listed < 1025 = place a.row.now a.s a.j a.turn c.requires.0 c.requires.1.0 c.requires.1.1 c.if-c-eq0.false (omega arith) in
     omega (arith, free)
 
 pub returns : goal.returns
 returns c =
     let a = c.args in
-    entered a.row.now a.s a.j a.turn c.requires.0 c.requires.1.0 c.requires.1.1 c.if-c-eq0.false c.if-row-at-ne0.false
+    entered a.row.now a.s a.j a.turn c.requires.0 c.requires.1.0 c.requires.1.1 c.if-c-eq0.false (omega arith)
