@@ -14,38 +14,32 @@ pub struct Input {
 }
 
 // Reads until the buffer is full, the input ends or a read fails.
-fn read_full(from: &mut impl Read, buf: &mut [u8]) -> Input
-    ensures { IsPrefixLen result.len buf.new }
+fn read_full(from: &mut impl Read, buf: &mut [u8]) -> usize
+    ensures { IsPrefixLen result buf.new }
 {
     let mut len = 0;
     while len < buf.len() {
         match from.read(&mut buf[len..]) {
-            Ok(0) => return Input { len, failed: false },
+            Ok(0) => return len,
             Ok(n) => len += n,
-            Err(_) => return Input { len, failed: true },
+            Err(_) => return len,
         }
     }
-    Input { len, failed: false }
+    len
 }
 
-// One more read: the end of the input is still its end, and after a full buffer it tells a longer input from a read that failed.
+// One more read tells the end of the input from a read that failed.
 pub fn read_input(from: &mut impl Read, buf: &mut [u8]) -> Input
     ensures { IsPrefixLen result.len buf.new }
 {
-    let got = read_full(from, buf);
-    if got.failed {
-        return got;
-    }
+    let len = read_full(from, buf);
     let mut one = [0u8; 1];
-    let full = got.len == buf.len();
+    let full = len == buf.len();
     let failed = match from.read(&mut one) {
         Ok(more) => !full & (more != 0),
         Err(_) => true,
     };
-    Input {
-        len: got.len,
-        failed,
-    }
+    Input { len, failed }
 }
 
 // Writes the front of a buffer. Where that fails, the line lost goes to standard error.
