@@ -20,5 +20,5 @@ words_come_apart n k len hn hk hlen =
     record {
       refused = ap (λ h. h / 2 ^ 24) high ∙ above 24 (n % 2 ^ 8) k ∙ mod-eq_of_lt hn;
       k_told = ap (λ h. h % 2 ^ 24) high ∙ below 24 (n % 2 ^ 8) k ∙ mod-eq_of_lt hk;
-      length-told = below 32 (n % 2 ^ 8 * 2 ^ 24 + k % 2 ^ 24) len ∙ mod-eq_of_lt hlen;
+      length_told = below 32 (n % 2 ^ 8 * 2 ^ 24 + k % 2 ^ 24) len ∙ mod-eq_of_lt hlen;
     }

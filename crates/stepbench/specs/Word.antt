@@ -17,7 +17,7 @@ length_in w = w % 2 ^ 32
 pub record Apart (w n k len : ℕ) : Type 0 where
   pub refused : refused_in w ≡ n
   pub k_told : k_in w ≡ k
-  pub length-told : length_in w ≡ len
+  pub length_told : length_in w ≡ len
 
 -- what fits comes out as it was put in
 unfoldable pub WordsComeApart : Type 0
