@@ -4,8 +4,9 @@
 usage: answers.py CRATE           in the repository, the crates below CRATE proved: turns each Proof.antt of it
        answers.py CRATE F ..      those functions alone (the path of the folder below proofs/)
 
-It moves each Proof.antt to proofs-old/ beside the checkout (OLD), writes the invariants, checks the crate, and answers the goals that the
-check leaves open, by the old answers, with the old names of steps and goals turned (rt check --generated --old-names).
+It moves each Proof.antt to the folder that OLD names (else proofs-old/CRATE in the folder for temporary files), writes the invariants, checks
+the crate, and answers the goals that the check leaves open, by the old answers, with the old names of steps and goals turned (rt check
+--generated --old-names). Of an old answer `λ c t e. ..` it keeps the first binder: the others are put back by hand.
 """
 
 import json
