@@ -10,7 +10,7 @@ use lib.Seq.{take_at}
 use Rattle.rules.proofs.Facts.{either_way}
 use Rattle.script.specs.Wrote.{Wrote}
 use Rattle.script.proofs.Writes.{same_length, size, in_front}
-use Rattle.runfile.specs.declared.WriteAnswer.{WriteAnswer}
+use Rattle.rules.specs.Reason.{Numbers}
 use Rattle.runfile.specs.Writing.{Written}
 use Rattle.runfile.proofs.Writes.{clear_writes}
 use Rattle.drafting.specs.declared.Draft.{Draft}
@@ -38,7 +38,7 @@ pub front_ends : {a b : List ℕ} {j : ℕ} (xs : List ℕ) → Wrote a b 0 j xs
 front_ends xs w h = let l = w.lent in omega (arith, size w (omega arith), same_length w)
 
 -- a text that can
-module _ (text out : List ℕ) (h : lacking (last_draft text) ≡ 0) (answer : WriteAnswer) (after : List ℕ)
+module _ (text out : List ℕ) (h : lacking (last_draft text) ≡ 0) (answer : Numbers) (after : List ℕ)
     (w : Written (last_draft text).x (last_draft text).n (table_in text) (turns_in text) out answer after) where
   abbrev d : Draft
   d = last_draft text
@@ -60,7 +60,7 @@ module _ (text out : List ℕ) (h : lacking (last_draft text) ≡ 0) (answer : W
 
 -- the same from the rows that were lent
 pub taken_from : (text out table turns : List ℕ) (a b : ℕ) (d : Draft) → d ≡ last_draft text → lacking d ≡ 0
-    → take a table ≡ table_in text → take b turns ≡ turns_in text → (answer : WriteAnswer) (after : List ℕ)
+    → take a table ≡ table_in text → take b turns ≡ turns_in text → (answer : Numbers) (after : List ℕ)
     → Written d.x d.n (take a table) (take b turns) out answer after
     → ParsedTo text out (parsed 0 answer.refused answer.len) after
 taken_from text out table turns a b d e l f g answer after w =

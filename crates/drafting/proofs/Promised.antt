@@ -14,10 +14,10 @@ use Rattle.runfile.specs.Writing.{write_of, out_of, Written}
 use Rattle.runfile.specs.Promise.{Holds, ReadWritesBack, WrittenReadsBack}
 use Rattle.runfile.proofs.Trailers.{bytes_part}
 use Rattle.runfile.proofs.Trips.{written_reads_back, read_writes_back}
-use Rattle.runtext.specs.declared.Printed.{Printed}
+use Rattle.rules.specs.Reason.{Numbers}
 use Rattle.runtext.specs.Text.{file_text, print_of, printed_on, PrintedTo}
 use Rattle.runtext.proofs.Runs.{held}
-use Rattle.drafting.specs.declared.Parsed.{Parsed}
+use Rattle.drafting.specs.Parse.{Parsed}
 use Rattle.drafting.specs.Scan.{no_scan, run}
 use Rattle.drafting.specs.Parse.{last_draft, lacking, table_in, turns_in, parsed, ParsedTo}
 use Rattle.drafting.specs.Promise.{TurnedBack, PrintedReadsBack, TextsTellGoodRuns, ParseSettled}
@@ -96,7 +96,7 @@ module _ (file : List ℕ) (h : AllBytes file) (e : (read_of file).refused ≡ 0
       record { answered = c.answered ∙ ap (λ a. parsed 0 a.refused a.len) w.answered; left = c.left ∙ w.left }
 
 -- a page that a file was printed on
-module _ (file page page' : List ℕ) (p : Printed) (w : PrintedTo file page p page') (z : p.refused ≡ 0) where
+module _ (file page page' : List ℕ) (p : Numbers) (w : PrintedTo file page p page') (z : p.refused ≡ 0) where
   abbrev text : List ℕ
   text = file_text file
 

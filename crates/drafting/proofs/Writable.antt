@@ -11,7 +11,7 @@ use Rattle.rules.specs.Limits.{station_limit, call_limit, turn_limit}
 use Rattle.rules.specs.Row.{Row, verdict, verdict_of}
 use Rattle.rules.proofs.Rows.{Clear, clear_both}
 use Rattle.runfile.specs.Layout.{records, file_of}
-use Rattle.runfile.specs.declared.WriteAnswer.{WriteAnswer}
+use Rattle.rules.specs.Reason.{Numbers}
 use Rattle.runfile.specs.First.{first_of}
 use Rattle.runfile.specs.Reading.{bad_call_at, bad_turn_at, first_call, first_turn, part_rows}
 use Rattle.runfile.specs.Writing.{file_length, length_rows, room_rows, write_rows, wrote, write_by, write_of, out_of, Written}
@@ -51,7 +51,7 @@ module _ (x n : ℕ) (table turns : List ℕ) (g : GoodRun x n table turns) wher
       (clear_both (part_rows n table turns) (room_rows table turns room) no_part (le-ltb room (file_length table turns) h, tt))
 
   -- and a buffer that is too short is left as it was
-  pub no_room : (out : List ℕ) (answer : WriteAnswer) (after : List ℕ) → length out < file_length table turns
+  pub no_room : (out : List ℕ) (answer : Numbers) (after : List ℕ) → length out < file_length table turns
       → Written x n table turns out answer after → (answer ≡ wrote 14 0 0) × (after ≡ out)
   unfolding write_of out_of
   no_room out answer after h w =

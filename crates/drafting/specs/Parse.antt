@@ -3,7 +3,7 @@ use Rattle.std.specs.Prelude.{◌≡◌, cond, List, ◌++◌, ℕ, eqb, ltb, le
 use Rattle.runfile.specs.Layout.{file_of}
 use Rattle.runfile.specs.Writing.{file_length}
 use Rattle.drafting.specs.declared.Draft.{Draft}
-use Rattle.drafting.specs.declared.Parsed.{Parsed}
+use Rattle.drafting.specs.Parse.{Parsed}
 use Rattle.drafting.specs.Draft.{lacking_at, call_made, turn_made}
 use Rattle.drafting.specs.Scan.{no_scan, line_ended, run, given}
 

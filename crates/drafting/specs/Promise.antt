@@ -4,9 +4,9 @@ use Rattle.std.specs.Prelude.{◌≡◌, List, ◌++◌, ℕ, ◌≤◌, length,
 use Rattle.octets.specs.Bytes.{AllBytes}
 use Rattle.runfile.specs.Reading.{longest}
 use Rattle.runfile.specs.Promise.{Holds}
-use Rattle.runtext.specs.declared.Printed.{Printed}
+use Rattle.rules.specs.Reason.{Numbers}
 use Rattle.runtext.specs.Text.{PrintedTo}
-use Rattle.drafting.specs.declared.Parsed.{Parsed}
+use Rattle.drafting.specs.Parse.{Parsed}
 use Rattle.drafting.specs.Parse.{last_draft, table_in, turns_in, parsed, parse_of, ParsedTo}
 
 -- a file that was printed on a page, and the page's text parsed: the same bytes, given room
@@ -16,7 +16,7 @@ pub record TurnedBack (file out : List ℕ) (answer : Parsed) (after : List ℕ)
 
 unfoldable pub PrintedReadsBack : Type 0
 PrintedReadsBack =
-    (file page page' out after : List ℕ) (p : Printed) (answer : Parsed) → AllBytes file → PrintedTo file page p page' → p.refused ≡ 0
+    (file page page' out after : List ℕ) (p : Numbers) (answer : Parsed) → AllBytes file → PrintedTo file page p page' → p.refused ≡ 0
     → length file ≤ length out → ParsedTo (take p.len page') out answer after → TurnedBack file out answer after
 
 -- the file that a text gives reads well, and holds what the text tells

@@ -4,7 +4,7 @@ use Rattle.rules.specs.Limits.{station_limit, call_limit, turn_limit}
 use Rattle.script.specs.Decimal.{decimal}
 use Rattle.script.specs.Quote.{quote}
 use Rattle.runtext.specs.Letters.{newline}
-use Rattle.drafting.specs.declared.Parsed.{Parsed}
+use Rattle.drafting.specs.Parse.{Parsed}
 
 -- the words for what was expected, by its number
 unfoldable pub words_for : ℕ → List ℕ

@@ -7,7 +7,7 @@ use Rattle.card.specs.Register.{halves}
 use Rattle.card.specs.Word.{revision_a, word_of, claim_word}
 use Rattle.bench.specs.declared.Bench.{Bench}
 use Rattle.bench.specs.Sound.{sound}
-use Rattle.picture.specs.declared.Drawing.{Drawing}
+use Rattle.rules.specs.Reason.{Numbers}
 
 -- the words of entries 1 to k
 unfoldable pub entry_words : List Halves → ℕ → List ℕ
@@ -30,7 +30,7 @@ picture_size w = 16 + 16 * w.n
 abbrev pub picture_refusals : Bench → ℕ → List Refusal
 picture_refusals w room = refusal 9 (not (sound w)) ∷ refusal 14 (ltb room (picture_size w)) ∷ []
 
-unfoldable pub drawing_of : Bench → ℕ → Drawing
+unfoldable pub drawing_of : Bench → ℕ → Numbers
 drawing_of w room =
     let number = refusal_of (picture_refusals w room) in
     cond (eqb number 0) (record { refused = 0; len = picture_size w }) (record { refused = number; len = 0 })
@@ -41,6 +41,6 @@ drawn_on w out =
     cond (eqb (refusal_of (picture_refusals w (length out))) 0) (in_bytes (registers w) ++ drop (picture_size w) out) out
 
 -- the contract of `picture`: its answer, and the lent buffer afterwards
-pub record DrawnTo (w : Bench) (out : List ℕ) (answer : Drawing) (after : List ℕ) : Type 0 where
+pub record DrawnTo (w : Bench) (out : List ℕ) (answer : Numbers) (after : List ℕ) : Type 0 where
   pub answered : answer ≡ drawing_of w (length out)
   pub left : after ≡ drawn_on w out

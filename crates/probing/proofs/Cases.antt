@@ -15,7 +15,7 @@ use Rattle.bench.specs.declared.Bench.{Bench}
 use Rattle.bench.specs.declared.Turned.{Turned}
 use Rattle.bench.specs.Sound.{sound}
 use Rattle.bench.specs.Turn.{turn_of}
-use Rattle.picture.specs.declared.Drawing.{Drawing}
+use Rattle.rules.specs.Reason.{Numbers}
 use Rattle.picture.specs.Picture.{registers, in_bytes, picture_size, picture_refusals, drawing_of, drawn_on}
 use Rattle.picture.proofs.Drawn.{size-drawn}
 use Rattle.probing.specs.Numbers.{bench_of}
@@ -50,7 +50,7 @@ pub record Drew (w : Bench) (len : ℕ) (page : List ℕ) : Type 0 where
 front : (xs ys : List ℕ) (k : ℕ) → length xs ≡ k → take k (xs ++ ys) ≡ xs
 front xs ys k e = take-append-le k xs ys (omega arith) ∙ take_all k xs (omega arith)
 
-module _ (w : Bench) (page page' : List ℕ) (d : Drawing) (e : d ≡ drawing_of w (length page)) (f : page' ≡ drawn_on w page) where
+module _ (w : Bench) (page page' : List ℕ) (d : Numbers) (e : d ≡ drawing_of w (length page)) (f : page' ≡ drawn_on w page) where
   pub drew : d.refused ≡ 0 → Drew w d.len page'
   drew h =
       either_way (eqb (number w (length page)) 0)

@@ -17,7 +17,7 @@ use Rattle.reach.specs.Reach.{move_refusals}
 use Rattle.bench.specs.declared.Bench.{Bench}
 use Rattle.bench.specs.Turn.{fresh_refusals, fresh_of}
 use Rattle.bench.specs.Promise.{refusals_of}
-use Rattle.picture.specs.declared.Drawing.{Drawing}
+use Rattle.rules.specs.Reason.{Numbers}
 use Rattle.picture.specs.Picture.{picture_refusals, drawing_of, drawn_on, DrawnTo}
 use Rattle.promises.specs.Refused.{Rises, FreshRefused, PictureRefused, LowestRefusals}
 
@@ -47,7 +47,7 @@ drawn w out =
     rw e (record { number = record { given = sym z; table = table }; empty = λ h. absurd (h refl); same = λ h. absurd (h refl) }))
     (λ e. rw e (record { number = record { given = refl; table = table }; empty = λ h. refl; same = λ h. refl }))
 
-picture : (w : Bench) (out : List ℕ) (answer : Drawing) (after : List ℕ) → DrawnTo w out answer after → PictureRefused w out answer after
+picture : (w : Bench) (out : List ℕ) (answer : Numbers) (after : List ℕ) → DrawnTo w out answer after → PictureRefused w out answer after
 picture w out answer after d =
     subst⁻¹ (λ r. PictureRefused w out r after) d.answered (subst⁻¹ (λ l. PictureRefused w out (drawing_of w (length out)) l) d.left (drawn w out))
 

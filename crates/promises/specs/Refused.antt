@@ -12,7 +12,7 @@ use Rattle.bench.specs.declared.Made.{Made}
 use Rattle.bench.specs.Record.{blank}
 use Rattle.bench.specs.Turn.{fresh_refusals, fresh_of}
 use Rattle.bench.specs.Promise.{Turn, refusals_of}
-use Rattle.picture.specs.declared.Drawing.{Drawing}
+use Rattle.rules.specs.Reason.{Numbers}
 use Rattle.picture.specs.Picture.{picture_refusals, DrawnTo}
 
 -- a table's numbers rise, so it gives the lowest that holds
@@ -32,7 +32,7 @@ pub record FreshRefused (x n : ℕ) (answer : Made) : Type 0 where
   pub made : answer.refused ≡ 0 → answer.bench ≡ blank x n
 
 -- drawing a picture; refused, its length is 0 and no byte changes
-pub record PictureRefused (w : Bench) (out : List ℕ) (answer : Drawing) (after : List ℕ) : Type 0 where
+pub record PictureRefused (w : Bench) (out : List ℕ) (answer : Numbers) (after : List ℕ) : Type 0 where
   pub number : Lowest (picture_refusals w (length out)) answer.refused
   pub empty : (answer.refused ≡ 0 → ⊥) → answer.len ≡ 0
   pub same : (answer.refused ≡ 0 → ⊥) → after ≡ out
@@ -44,4 +44,4 @@ pub record LowestRefusals : Type 0 where
   pub turn : (w : Bench) (u : Turn) → Rises (refusals_of w u)
   pub move : (g : Reach) (kind a b : ℕ) → Rises (move_refusals g kind a b)
   pub fresh : (x n : ℕ) → FreshRefused x n (fresh_of x n)
-  pub picture : (w : Bench) (out : List ℕ) (answer : Drawing) (after : List ℕ) → DrawnTo w out answer after → PictureRefused w out answer after
+  pub picture : (w : Bench) (out : List ℕ) (answer : Numbers) (after : List ℕ) → DrawnTo w out answer after → PictureRefused w out answer after

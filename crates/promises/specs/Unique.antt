@@ -6,7 +6,7 @@ use Rattle.std.specs.Prelude.{◌≡◌, List, ℕ}
 use Rattle.bench.specs.declared.Bench.{Bench}
 use Rattle.run.specs.declared.Trace.{Trace}
 use Rattle.run.specs.Trace.{TracedTo}
-use Rattle.picture.specs.declared.Drawing.{Drawing}
+use Rattle.rules.specs.Reason.{Numbers}
 use Rattle.picture.specs.Picture.{DrawnTo}
 
 -- a result and a lent buffer afterwards
@@ -19,5 +19,5 @@ Unique X allowed = (x y : X) → allowed x → allowed y → x ≡ y
 
 -- each by the predicate that its function ensures
 pub record OneResult : Type 0 where
-  pub picture : (w : Bench) (out : List ℕ) → Unique (Left Drawing) (λ r. DrawnTo w out r.result r.out)
+  pub picture : (w : Bench) (out : List ℕ) → Unique (Left Numbers) (λ r. DrawnTo w out r.result r.out)
   pub traced : (file row : List ℕ) → Unique (Left Trace) (λ r. TracedTo file row r.result r.out)

@@ -1,3 +1,4 @@
 pub mod Facts
 pub mod Exactly
 pub mod Rows
+pub mod Reasons

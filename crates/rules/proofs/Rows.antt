@@ -6,7 +6,7 @@ use Prim.Native.Nat.{ℕ, ◌<◌}
 use native.Mathlib.Omega.{arith}
 use borrow.Author.Tests.{eqb-true, eqb-false, eq-eqb, ne_eqb, not-true}
 use lib.Dec.{eqb}
-use Rattle.rules.specs.declared.Verdict.{Verdict}
+use Rattle.rules.specs.Row.{Verdict}
 use Rattle.rules.specs.Refusal.{refusal, refusal_of, absent, proper, FirstIsGiven}
 use Rattle.rules.specs.Row.{Row, verdict, verdict_of, refusals, k_at, ExactRows}
 use Rattle.rules.proofs.Facts.{either_way, and_left, and_right}

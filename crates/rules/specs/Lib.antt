@@ -2,3 +2,4 @@ pub mod Test
 pub mod Refusal
 pub mod Row
 pub mod Limits
+pub mod Reason

@@ -1,7 +1,11 @@
 -- The table of numbered refusals with its three columns, number, when and K, and what it gives: the number and its K. Assumes nothing.
 use Rattle.std.specs.Prelude.{◌≡◌, Bool, true, cond, List, [], ◌∷◌, ℕ, eqb}
-use Rattle.rules.specs.declared.Verdict.{Verdict}
 use Rattle.rules.specs.Refusal.{Refusal, refusal, refusal_of, proper, GivenExactly}
+
+-- a refusal's number and its K; zeros where nothing is refused
+pub record Verdict : Type 0 where
+  pub refused : ℕ
+  pub k : ℕ
 
 pub record Row : Type 0 where
   pub number : ℕ

@@ -1,7 +1,9 @@
 // What every refusing function shares: rules as lists of tests, and the refusal that a table gives, with its K.
-// Beside the verdict it has definitions and their laws alone; its functions stand for the laws of numbered refusals.
+// Beside the reasons it has definitions and their laws alone; its functions with an empty body stand for those laws.
 #![tactic(auto)]
 
+ghost use Rattle.std.specs.Prelude.{◌≡◌};
+ghost use Rattle.rules.specs.Reason.{number_of, k_of, NumbersTell};
 ghost use Rattle.rules.specs.Refusal.{FirstIsGiven, LowestIsGiven};
 ghost use Rattle.rules.specs.Row.{ExactRows};
 
@@ -12,11 +14,58 @@ pub const CALLS: u32 = 1024;
 
 pub const TURNS: u32 = 40960;
 
-// A refusal's number and its K; zeros where nothing is refused.
-#[derive(Clone, Copy)]
-pub struct Verdict {
-    pub refused: u32,
-    pub k: usize,
+// Why something was refused, in the order of document 01's "Numbered refusals". A call's or a turn's place counts from 1.
+#[derive(Clone, Copy, PartialEq, Eq)]
+pub enum Reason {
+    FileLength,
+    Form,
+    Stations,
+    Calls,
+    Turns,
+    Lengths,
+    Call(usize),
+    Turn(usize),
+    Unsound,
+    Station,
+    Offer,
+    Count,
+    Version,
+    Room,
+}
+
+impl Reason {
+    // N of document 01.
+    pub fn number(self) -> u32
+        ensures { result ≡ number_of self }
+    {
+        match self {
+            Reason::FileLength => 1,
+            Reason::Form => 2,
+            Reason::Stations => 3,
+            Reason::Calls => 4,
+            Reason::Turns => 5,
+            Reason::Lengths => 6,
+            Reason::Call(_) => 7,
+            Reason::Turn(_) => 8,
+            Reason::Unsound => 9,
+            Reason::Station => 10,
+            Reason::Offer => 11,
+            Reason::Count => 12,
+            Reason::Version => 13,
+            Reason::Room => 14,
+        }
+    }
+
+    // K of document 01, 0 where it names none.
+    pub fn k(self) -> usize
+        ensures { result ≡ k_of self }
+    {
+        match self {
+            Reason::Call(call) => call,
+            Reason::Turn(turn) => turn,
+            _ => 0,
+        }
+    }
 }
 
 // Of any table, the first in its order that holds is given, and no refusal where none holds.
@@ -32,4 +81,9 @@ pub fn lowest_is_given()
 // The same of a table with its K: each number comes with the K that its row names.
 pub fn rows_are_exact()
     ensures { ExactRows }
+{}
+
+// An answer's numbers tell the answer: its reason, or its length.
+pub fn numbers_tell_answers()
+    ensures { NumbersTell }
 {}

@@ -6,7 +6,7 @@ use native.Mathlib.Omega.{arith}
 use borrow.Author.Tests.{eq-eqb, ne_eqb, lt-ltb, le-ltb}
 use lib.ListN.{length, take, drop, replicate}
 use lib.Seq.{length-take-le, take-take, take-add}
-use Rattle.runfile.specs.declared.ReadAnswer.{ReadAnswer}
+use Rattle.runfile.specs.Reading.{ReadAnswer}
 use Rattle.runfile.specs.Reading.{read_of, turns_of}
 use Rattle.runfile.proofs.Answers.{inside}
 use Rattle.runfile.proofs.Trailers.{length_part}

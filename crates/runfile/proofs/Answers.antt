@@ -7,12 +7,12 @@ use native.Mathlib.Omega.{arith}
 use borrow.Author.Tests.{eq-eqb, ne_eqb, eqb-true, eqb-false, ltb-false, not-false}
 use lib.Dec.{eqb, ltb}
 use lib.ListN.{length}
-use Rattle.rules.specs.declared.Verdict.{Verdict}
+use Rattle.rules.specs.Row.{Verdict}
 use Rattle.rules.specs.Row.{verdict, verdict_of}
 use Rattle.rules.proofs.Facts.{either_way, or_none}
 use Rattle.rules.proofs.Rows.{Clear, clear, clear_front, clear_back, none_given, silent, chosen, stopped, passed}
 use Rattle.runfile.specs.declared.Trailer.{Trailer}
-use Rattle.runfile.specs.declared.ReadAnswer.{ReadAnswer}
+use Rattle.runfile.specs.Reading.{ReadAnswer}
 use Rattle.runfile.specs.Reading.{turn_count, agrees, trailer_at, number_rows, content_rows, trailer_rows, longest, bad_length, read_rows, no_run, run_by, read_by, read_of}
 use Rattle.runfile.specs.Promise.{TrailerPointsBack}
 use Rattle.runfile.proofs.Limits.{within, Agreed, agreed}

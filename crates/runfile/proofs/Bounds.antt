@@ -9,7 +9,7 @@ use borrow.Author.Tests.{ltb-false}
 use lib.Dec.{eqb, ltb}
 use lib.ListN.{length, length-take}
 use Rattle.rules.specs.Limits.{station_limit, call_limit, turn_limit}
-use Rattle.rules.specs.declared.Verdict.{Verdict}
+use Rattle.rules.specs.Row.{Verdict}
 use Rattle.rules.specs.Row.{verdict, verdict_of}
 use Rattle.rules.proofs.Facts.{either_way}
 use Rattle.runfile.specs.First.{first_from}

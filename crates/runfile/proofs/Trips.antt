@@ -11,7 +11,7 @@ use Rattle.octets.specs.Bytes.{AllBytes}
 use Rattle.rules.specs.Row.{row}
 use Rattle.rules.proofs.Rows.{Clear, clear_both}
 use Rattle.runfile.specs.declared.Trailer.{Trailer}
-use Rattle.runfile.specs.declared.WriteAnswer.{WriteAnswer}
+use Rattle.rules.specs.Reason.{Numbers}
 use Rattle.runfile.specs.Layout.{part, records, trailer_of, trailer, trailer_bytes, file_of}
 use Rattle.runfile.specs.Reading.{part_rows, turn_count, agrees, trailer_at, table_by, turns_by, number_rows, content_rows, trailer_rows, longest, bad_length, read_rows, run_by, read_of}
 use Rattle.runfile.specs.Writing.{file_length, length_rows, room_rows, write_rows, wrote, Written}
@@ -138,7 +138,7 @@ module _ (f : List ℕ) (h : AllBytes f) (z : Trailer) (y : z ≡ trailer_at f) 
       ∙ sym (take-add e 16 f)
       ∙ take_all (e + 16) f (omega arith)
 
-  pub again : (out : List ℕ) (answer : WriteAnswer) (after : List ℕ) → length f ≤ length out
+  pub again : (out : List ℕ) (answer : Numbers) (after : List ℕ) → length f ≤ length out
       → Written z.x z.n (table_by z f) (turns_by z f) out answer after → WrittenAs f out answer after
   again out answer after r w =
       let c = clear_writes z.x z.n T U out answer after (no_write_row (length out) r) w in

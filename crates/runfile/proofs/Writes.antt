@@ -8,11 +8,11 @@ use borrow.Author.Tests.{eqb-true, eqb-false, eq-eqb, ne_eqb, ltb-false}
 use lib.Dec.{eqb}
 use lib.ListN.{length, drop, length-append, length-drop}
 use lib.Seq.{sets, drop_at}
-use Rattle.rules.specs.declared.Verdict.{Verdict}
+use Rattle.rules.specs.Row.{Verdict}
 use Rattle.rules.specs.Row.{verdict_of}
 use Rattle.rules.proofs.Facts.{either_way}
 use Rattle.rules.proofs.Rows.{Clear, none_given, silent, chosen, clear, clear_front, clear_back}
-use Rattle.runfile.specs.declared.WriteAnswer.{WriteAnswer}
+use Rattle.rules.specs.Reason.{Numbers}
 use Rattle.runfile.specs.Layout.{records, trailer, file_of}
 use Rattle.runfile.specs.Reading.{part_rows}
 use Rattle.runfile.specs.Writing.{file_length, length_rows, room_rows, write_rows, wrote, write_by, write_of, out_of, Written}
@@ -56,7 +56,7 @@ module _ (n : ℕ) (table turns : List ℕ) (room : ℕ) where
   abbrev v : Verdict
   v = verdict_of (write_rows n table turns room)
 
-  abbrev done : WriteAnswer
+  abbrev done : Numbers
   done = wrote 0 0 (file_length table turns)
 
   pub write_number : (write_of n table turns room).refused ≡ (verdict_of (write_rows n table turns room)).refused
@@ -87,7 +87,7 @@ module _ (x n : ℕ) (table turns out : List ℕ) (v : Verdict) (e : v ≡ verdi
       }
 
 -- where no row holds, the file stands in front of the buffer
-pub clear_writes : (x n : ℕ) (table turns out : List ℕ) (answer : WriteAnswer) (after : List ℕ) → Clear (write_rows n table turns (length out))
+pub clear_writes : (x n : ℕ) (table turns out : List ℕ) (answer : Numbers) (after : List ℕ) → Clear (write_rows n table turns (length out))
     → Written x n table turns out answer after
     → (answer ≡ wrote 0 0 (file_length table turns)) × (after ≡ file_of x n table turns ++ drop (file_length table turns) out)
 unfolding write_of out_of
@@ -95,7 +95,7 @@ clear_writes x n table turns out answer after c w =
     let e = none_given (write_rows n table turns (length out)) c in
     (w.answered ∙ ap (λ v. write_by v (file_length table turns)) e, w.left ∙ ap (λ v. cond (eqb (write_by v (file_length table turns)).refused 0) (file_of x n table turns ++ drop (file_length table turns) out) out) e)
 
-module _ (x n : ℕ) (table turns out : List ℕ) (answer : WriteAnswer) (after : List ℕ) (w : Written x n table turns out answer after) where
+module _ (x n : ℕ) (table turns out : List ℕ) (answer : Numbers) (after : List ℕ) (w : Written x n table turns out answer after) where
   -- an answer that refuses nothing is that of an accepted input, whose file stands in front of the buffer
   pub taken : answer.refused ≡ 0 → Accepted n table turns (length out)
   taken e =

@@ -3,7 +3,7 @@ use Rattle.std.specs.Prelude.{◌≡◌, ◌↔◌, Bool, true, false, List, [],
 use Rattle.octets.specs.Bytes.{AllBytes}
 use Rattle.rules.specs.Refusal.{refusal_of, holds_at, GivenExactly}
 use Rattle.rules.specs.Row.{Row, refusals}
-use Rattle.runfile.specs.declared.WriteAnswer.{WriteAnswer}
+use Rattle.rules.specs.Reason.{Numbers}
 use Rattle.runfile.specs.First.{first_of}
 use Rattle.runfile.specs.declared.CallRecord.{CallRecord}
 use Rattle.runfile.specs.Layout.{call_record, zero_byte, record_bytes, records}
@@ -31,11 +31,11 @@ pub record Holds (file : List ℕ) (x n : ℕ) (table turns : List ℕ) : Type 0
 -- what is read from a written file is what was written, for every input that the writer does not refuse
 unfoldable pub WrittenReadsBack : Type 0
 WrittenReadsBack =
-    (x n : ℕ) (table turns out : List ℕ) (answer : WriteAnswer) (after : List ℕ) → x < 2 ^ 32
+    (x n : ℕ) (table turns out : List ℕ) (answer : Numbers) (after : List ℕ) → x < 2 ^ 32
     → Written x n table turns out answer after → answer.refused ≡ 0 → Holds (take answer.len after) x n table turns
 
 -- success changes just the first 16 + t + 12q bytes of the buffer, a refusal changes none
-pub record OnlyOutput (table turns out : List ℕ) (answer : WriteAnswer) (after : List ℕ) : Type 0 where
+pub record OnlyOutput (table turns out : List ℕ) (answer : Numbers) (after : List ℕ) : Type 0 where
   pub refused : (answer.refused ≡ 0 → ⊥) → after ≡ out
   pub len : answer.refused ≡ 0 → answer.len ≡ 16 + length turns + 12 * records table
   pub rest : answer.refused ≡ 0 → drop answer.len after ≡ drop answer.len out
@@ -43,17 +43,17 @@ pub record OnlyOutput (table turns out : List ℕ) (answer : WriteAnswer) (after
 
 unfoldable pub WritesOnlyOutput : Type 0
 WritesOnlyOutput =
-    (x n : ℕ) (table turns out : List ℕ) (answer : WriteAnswer) (after : List ℕ)
+    (x n : ℕ) (table turns out : List ℕ) (answer : Numbers) (after : List ℕ)
     → Written x n table turns out answer after → OnlyOutput table turns out answer after
 
 -- a file that reads well is, byte for byte, what the writer makes of what was read, given room
-pub record WrittenAs (file out : List ℕ) (answer : WriteAnswer) (after : List ℕ) : Type 0 where
+pub record WrittenAs (file out : List ℕ) (answer : Numbers) (after : List ℕ) : Type 0 where
   pub answered : answer ≡ wrote 0 0 (length file)
   pub left : after ≡ file ++ drop (length file) out
 
 unfoldable pub ReadWritesBack : Type 0
 ReadWritesBack =
-    (file out : List ℕ) (answer : WriteAnswer) (after : List ℕ) → AllBytes file → (read_of file).refused ≡ 0 → length file ≤ length out
+    (file out : List ℕ) (answer : Numbers) (after : List ℕ) → AllBytes file → (read_of file).refused ≡ 0 → length file ≤ length out
     → Written (read_of file).x (read_of file).n (table_of file) (turns_of file) out answer after → WrittenAs file out answer after
 
 -- 14 is never given to a buffer of as many bytes as the longest file has, 53,264
@@ -105,5 +105,5 @@ pub record RefusedExactly : Type 0 where
 -- two answers with their buffers that the writer's contract allows for one input are the same
 unfoldable pub WriterSettled : Type 0
 WriterSettled =
-    (x n : ℕ) (table turns out : List ℕ) (answer answer' : WriteAnswer) (after after' : List ℕ)
+    (x n : ℕ) (table turns out : List ℕ) (answer answer' : Numbers) (after after' : List ℕ)
     → Written x n table turns out answer after → Written x n table turns out answer' after' → (answer ≡ answer') × (after ≡ after')

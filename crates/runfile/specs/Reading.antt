@@ -1,10 +1,11 @@
 -- Document 01, "Numbered refusals" for run files: the rows that reader and writer share, and what is read of a file. Assumes nothing.
-use Rattle.std.specs.Prelude.{Bool, cond, not, ◌&&◌, ◌||◌, List, [], ◌∷◌, ◌++◌, ℕ, ◌+◌, ◌*◌, ◌-◌, eqb, ltb, length, get_or}
-use Rattle.rules.specs.declared.Verdict.{Verdict}
+use Rattle.std.specs.Prelude.{Bool, cond, not, ◌&&◌, ◌||◌, List, [], ◌∷◌, ◌++◌, ℕ, ◌+◌, ◌*◌, ◌-◌, eqb, ltb, length, get_or, Result, Ok, Err}
 use Rattle.rules.specs.Limits.{station_limit, call_limit, turn_limit, bad_station}
-use Rattle.rules.specs.Row.{Row, row, verdict_of}
+use Rattle.rules.specs.Row.{Verdict, Row, row, verdict_of}
+use Rattle.rules.specs.Reason.{number_of, k_of}
+use Rattle.rules.specs.declared.Reason.{Reason}
+use Rattle.runfile.specs.declared.Run.{Run}
 use Rattle.runfile.specs.declared.Trailer.{Trailer}
-use Rattle.runfile.specs.declared.ReadAnswer.{ReadAnswer}
 use Rattle.runfile.specs.First.{first_of}
 use Rattle.runfile.specs.Layout.{part, field, zero_byte, records, call_bytes, trailer_of}
 
@@ -80,6 +81,17 @@ bad_length f = ltb (length f) 16 || ltb longest (length f)
 abbrev pub read_rows : List ℕ → List Row
 read_rows f = row 1 (bad_length f) 0 ∷ trailer_rows f (trailer_at f)
 
+-- the numbers of what is read of a file. The call table starts at start, the turns at middle
+pub record ReadAnswer : Type 0 where
+  pub refused : ℕ
+  pub k : ℕ
+  pub x : ℕ
+  pub n : ℕ
+  pub q : ℕ
+  pub t : ℕ
+  pub start : ℕ
+  pub middle : ℕ
+
 -- a refused answer has zero in its other numbers
 abbrev pub no_run : ℕ → ℕ → ReadAnswer
 no_run refused k = record { refused = refused; k = k; x = 0; n = 0; q = 0; t = 0; start = 0; middle = 0 }
@@ -87,6 +99,11 @@ no_run refused k = record { refused = refused; k = k; x = 0; n = 0; q = 0; t = 0
 -- the call table stands at the front, the turns after it
 abbrev pub run_by : Trailer → ReadAnswer
 run_by z = record { refused = 0; k = 0; x = z.x; n = z.n; q = z.q; t = turn_count z; start = 0; middle = 12 * z.q }
+
+-- the numbers of the reader's answer, a run or the reason why it is refused
+abbrev pub read_numbers : Result Run Reason → ReadAnswer
+read_numbers (Ok r) = record { refused = 0; k = 0; x = r.x; n = r.n; q = r.q; t = r.t; start = 0; middle = 12 * r.q }
+read_numbers (Err e) = no_run (number_of e) (k_of e)
 
 abbrev pub read_by : Trailer → Verdict → ReadAnswer
 read_by z v = cond (eqb v.refused 0) (run_by z) (no_run v.refused v.k)

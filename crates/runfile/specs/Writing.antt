@@ -1,8 +1,7 @@
 -- Document 01, "Numbered refusals", the writer: x, n, a call table and turns, and what it leaves in the lent buffer. Assumes nothing.
 use Rattle.std.specs.Prelude.{◌≡◌, cond, List, [], ◌∷◌, ◌++◌, ℕ, ◌+◌, ◌%◌, eqb, ltb, length, drop}
-use Rattle.rules.specs.declared.Verdict.{Verdict}
-use Rattle.rules.specs.Row.{Row, row, verdict_of}
-use Rattle.runfile.specs.declared.WriteAnswer.{WriteAnswer}
+use Rattle.rules.specs.Row.{Verdict, Row, row, verdict_of}
+use Rattle.rules.specs.Reason.{Numbers}
 use Rattle.runfile.specs.Layout.{records, file_of}
 use Rattle.runfile.specs.Reading.{limit_rows, part_rows}
 
@@ -22,14 +21,14 @@ room_rows table turns room = row 14 (ltb room (file_length table turns)) 0 ∷ [
 abbrev pub write_rows : ℕ → List ℕ → List ℕ → ℕ → List Row
 write_rows n table turns room = length_rows n table turns ++ (part_rows n table turns ++ room_rows table turns room)
 
-abbrev pub wrote : ℕ → ℕ → ℕ → WriteAnswer
+abbrev pub wrote : ℕ → ℕ → ℕ → Numbers
 wrote refused k len = record { refused = refused; k = k; len = len }
 
-abbrev pub write_by : Verdict → ℕ → WriteAnswer
+abbrev pub write_by : Verdict → ℕ → Numbers
 write_by v len = cond (eqb v.refused 0) (wrote 0 0 len) (wrote v.refused v.k 0)
 
 -- what a lent buffer of room bytes gets for an answer
-unfoldable pub write_of : ℕ → List ℕ → List ℕ → ℕ → WriteAnswer
+unfoldable pub write_of : ℕ → List ℕ → List ℕ → ℕ → Numbers
 write_of n table turns room = write_by (verdict_of (write_rows n table turns room)) (file_length table turns)
 
 -- the buffer after the call: success changes only the bytes of the output, a refusal changes no lent byte
@@ -39,6 +38,6 @@ out_of x n table turns out =
     (file_of x n table turns ++ drop (file_length table turns) out) out
 
 -- the answer and the buffer that the writer hands back
-pub record Written (x n : ℕ) (table turns out : List ℕ) (answer : WriteAnswer) (after : List ℕ) : Type 0 where
+pub record Written (x n : ℕ) (table turns out : List ℕ) (answer : Numbers) (after : List ℕ) : Type 0 where
   pub answered : answer ≡ write_of n table turns (length out)
   pub left : after ≡ out_of x n table turns out

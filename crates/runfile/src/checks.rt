@@ -1,11 +1,12 @@
 // The refusals that reader and writer share: 3 to 6 of the numbers, 7 and 8 of the calls and turns.
 ghost use Rattle.std.specs.Prelude.{◌≡◌, false, length};
 ghost use Rattle.rules.specs.Row.{verdict_of};
+ghost use Rattle.rules.specs.Reason.{verdict_in};
 ghost use Rattle.runfile.specs.Reading.{bad_call, first_call, first_turn, limit_rows, part_rows};
 
 use crate::layout::{field, record_at};
 use octets::wide;
-use rules::{CALLS, STATIONS, TURNS, Verdict};
+use rules::{CALLS, Reason, STATIONS, TURNS};
 
 const MOST_CALLS: usize = CALLS as usize;
 
@@ -82,41 +83,35 @@ fn first_turn(n: u32, turns: &[u8]) -> usize
 }
 
 // Refusals 3 to 6.
-pub(crate) fn limits(n: u32, q: usize, t: usize, agree: bool) -> Verdict
-    ensures { result ≡ verdict_of (limit_rows n q t agree) }
+pub(crate) fn limits(n: u32, q: usize, t: usize, agree: bool) -> Result<(), Reason>
+    ensures { verdict_in result ≡ verdict_of (limit_rows n q t agree) }
 {
     if (n == 0) | (STATIONS < n) {
-        return Verdict { refused: 3, k: 0 };
+        return Err(Reason::Stations);
     }
     if MOST_CALLS < q {
-        return Verdict { refused: 4, k: 0 };
+        return Err(Reason::Calls);
     }
     if MOST_TURNS < t {
-        return Verdict { refused: 5, k: 0 };
+        return Err(Reason::Turns);
     }
     if !agree {
-        return Verdict { refused: 6, k: 0 };
+        return Err(Reason::Lengths);
     }
-    Verdict { refused: 0, k: 0 }
+    Ok(())
 }
 
 // Refusals 7 and 8.
-pub(crate) fn parts(n: u32, table: &[u8], turns: &[u8]) -> Verdict
-    ensures { result ≡ verdict_of (part_rows n table.now turns.now) }
+pub(crate) fn parts(n: u32, table: &[u8], turns: &[u8]) -> Result<(), Reason>
+    ensures { verdict_in result ≡ verdict_of (part_rows n table.now turns.now) }
 {
     let call = first_call(n, table);
     if 0 < call {
-        return Verdict {
-            refused: 7,
-            k: call,
-        };
+        return Err(Reason::Call(call));
     }
     let turn = first_turn(n, turns);
     if 0 < turn {
-        return Verdict {
-            refused: 8,
-            k: turn,
-        };
+        return Err(Reason::Turn(turn));
     }
-    Verdict { refused: 0, k: 0 }
+    Ok(())
 }

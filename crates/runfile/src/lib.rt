@@ -17,18 +17,13 @@ pub use promises::{
 pub use reading::{part, read, table, turns};
 pub use writing::write;
 
-// What is read of a file: x, n, the number of calls q and of turns t. The call table starts at start, the turns at middle.
-// Refused, all but refused and k are zero.
-#[derive(Clone, Copy)]
-pub struct ReadAnswer {
-    pub refused: u32,
-    pub k: usize,
+// The numbers of a run: x, n, the number of calls q and of turns t.
+#[derive(Clone, Copy, PartialEq, Eq)]
+pub struct Run {
     pub x: u32,
     pub n: u32,
     pub q: usize,
     pub t: usize,
-    pub start: usize,
-    pub middle: usize,
 }
 
 // A call of the table: kind 0 is read, 1 set, 2 swap.
@@ -38,14 +33,6 @@ pub struct CallRecord {
     pub kind: u32,
     pub a: u32,
     pub b: u32,
-}
-
-// len is the number of bytes written; refused, it is zero.
-#[derive(Clone, Copy)]
-pub struct WriteAnswer {
-    pub refused: u32,
-    pub k: usize,
-    pub len: usize,
 }
 
 // The trailer's six numbers; first and second are the distances back to the call table and to the turns.

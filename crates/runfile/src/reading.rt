@@ -1,77 +1,52 @@
 // A run file is read, and its parts are handed out.
 ghost use Rattle.std.specs.Prelude.{◌≡◌};
 ghost use Rattle.rules.specs.Row.{verdict_of};
+ghost use Rattle.rules.specs.Reason.{verdict_in};
 ghost use Rattle.runfile.specs.Layout.{part};
-ghost use Rattle.runfile.specs.Reading.{trailer_rows, no_run, read_of, table_of, turns_of};
+ghost use Rattle.runfile.specs.Reading.{trailer_rows, read_numbers, read_of, table_of, turns_of};
 
 use crate::checks::{limits, parts};
 use crate::layout::trailer_at;
-use crate::{ReadAnswer, Trailer};
-use rules::{CALLS, TURNS, Verdict};
+use crate::{Run, Trailer};
+use rules::{CALLS, Reason, TURNS};
 
 // The bytes of the longest file.
 const LONGEST: usize = 16 + TURNS as usize + 12 * CALLS as usize;
 
 // Refusals 2 to 8 of a file with this trailer. The distances are added as 64-bit numbers, where they do not wrap.
-fn judged(file: &[u8], z: Trailer) -> Verdict
-    ensures { result ≡ verdict_of (trailer_rows file.now z) }
+fn judged(file: &[u8], z: Trailer) -> Result<(), Reason>
+    ensures { verdict_in result ≡ verdict_of (trailer_rows file.now z) }
 {
     if z.form != 1 {
-        return Verdict { refused: 2, k: 0 };
+        return Err(Reason::Form);
     }
     let q = z.q as usize;
     let t = z.second as usize;
     let first = z.first as usize;
     let agree = (first == t + 12 * q) & (file.len() == 16 + first);
-    let v = limits(z.n, q, t, agree);
-    if v.refused != 0 {
-        return v;
-    }
+    limits(z.n, q, t, agree)?;
     let a = 12 * q;
     let e = a + t;
     parts(z.n, &file[0..a], &file[a..e])
 }
 
-fn refused(number: u32, k: usize) -> ReadAnswer
-    ensures { result ≡ no_run number k }
-{
-    ReadAnswer {
-        refused: number,
-        k,
-        x: 0,
-        n: 0,
-        q: 0,
-        t: 0,
-        start: 0,
-        middle: 0,
-    }
-}
-
 // What the file holds, or its refusal.
-pub fn read(file: &[u8]) -> ReadAnswer
-    ensures { result ≡ read_of file.now }
+pub fn read(file: &[u8]) -> Result<Run, Reason>
+    ensures { read_numbers result ≡ read_of file.now }
 {
     let len = file.len();
     if (len < 16) | (LONGEST < len) {
-        return refused(1, 0);
+        return Err(Reason::FileLength);
     }
     let a = len - 16;
     let z = trailer_at(&file[a..len]);
-    let v = judged(file, z);
-    if v.refused != 0 {
-        return refused(v.refused, v.k);
-    }
-    let q = z.q as usize;
-    ReadAnswer {
-        refused: 0,
-        k: 0,
+    judged(file, z)?;
+    Ok(Run {
         x: z.x,
         n: z.n,
-        q,
+        q: z.q as usize,
         t: z.second as usize,
-        start: 0,
-        middle: 12 * q,
-    }
+    })
 }
 
 // The k bytes from place at on, as far as there are so many.
@@ -93,14 +68,18 @@ pub fn part(s: &[u8], at: usize, k: usize) -> &[u8]
 pub fn table(file: &[u8]) -> &[u8]
     ensures { result.now ≡ table_of file.now }
 {
-    let r = read(file);
-    part(file, r.start, 12 * r.q)
+    match read(file) {
+        Ok(r) => part(file, 0, 12 * r.q),
+        Err(_) => &file[..0],
+    }
 }
 
 // The turns of a file, a part of it; empty for a refused one.
 pub fn turns(file: &[u8]) -> &[u8]
     ensures { result.now ≡ turns_of file.now }
 {
-    let r = read(file);
-    part(file, r.middle, r.t)
+    match read(file) {
+        Ok(r) => part(file, 12 * r.q, r.t),
+        Err(_) => &file[..0],
+    }
 }

@@ -3,12 +3,13 @@ ghost use Rattle.std.specs.Prelude.{◌≡◌, ◌+◌, ◌≤◌, length};
 ghost use Rattle.std.proofs.lemmas.List.Edits.{sets};
 ghost use Rattle.octets.specs.Bytes.{bytes};
 ghost use Rattle.rules.specs.Row.{verdict_of};
+ghost use Rattle.rules.specs.Reason.{numbers, verdict_in};
 ghost use Rattle.runfile.specs.Layout.{trailer_bytes, file_of};
 ghost use Rattle.runfile.specs.Writing.{file_length, write_rows, Written};
 
 use crate::checks::{limits, parts};
-use crate::{Trailer, WriteAnswer};
-use rules::Verdict;
+use crate::Trailer;
+use rules::Reason;
 
 // Copies s into the buffer, from place at on.
 fn lay(out: &mut [u8], at: usize, s: &[u8])
@@ -65,43 +66,26 @@ fn put_file(out: &mut [u8], x: u32, n: u32, table: &[u8], turns: &[u8])
 }
 
 // The writer's refusals, with a buffer of room bytes.
-fn writable(n: u32, table: &[u8], turns: &[u8], room: usize) -> Verdict
-    ensures { result ≡ verdict_of (write_rows n table.now turns.now room) }
+fn writable(n: u32, table: &[u8], turns: &[u8], room: usize) -> Result<(), Reason>
+    ensures { verdict_in result ≡ verdict_of (write_rows n table.now turns.now room) }
 {
     let l = table.len();
     let t = turns.len();
-    let v = limits(n, l / 12, t, l % 12 == 0);
-    if v.refused != 0 {
-        return v;
-    }
-    let p = parts(n, table, turns);
-    if p.refused != 0 {
-        return p;
-    }
+    limits(n, l / 12, t, l % 12 == 0)?;
+    parts(n, table, turns)?;
     if room < 16 + t + l {
-        return Verdict { refused: 14, k: 0 };
+        return Err(Reason::Room);
     }
-    Verdict { refused: 0, k: 0 }
+    Ok(())
 }
 
-// Writes the file of x, n, the call table and the turns to the front of the buffer; refused, it leaves the buffer as it was.
-pub fn write(x: u32, n: u32, table: &[u8], turns: &[u8], out: &mut [u8]) -> WriteAnswer
-    ensures { Written x n table.now turns.now out.old result out.new }
+// Writes the file of x, n, the call table and the turns to the front of the buffer, and tells its length; refused, it leaves the buffer as it was.
+pub fn write(x: u32, n: u32, table: &[u8], turns: &[u8], out: &mut [u8]) -> Result<usize, Reason>
+    ensures { Written x n table.now turns.now out.old (numbers result) out.new }
 {
     let l = table.len();
     let t = turns.len();
-    let found = writable(n, table, turns, out.len());
-    if found.refused != 0 {
-        return WriteAnswer {
-            refused: found.refused,
-            k: found.k,
-            len: 0,
-        };
-    }
+    writable(n, table, turns, out.len())?;
     put_file(out, x, n, table, turns);
-    WriteAnswer {
-        refused: 0,
-        k: 0,
-        len: 16 + t + l,
-    }
+    Ok(16 + t + l)
 }

@@ -12,13 +12,13 @@ use Rattle.script.specs.Output.{refused_text, output_of, OutputSettled}
 use Rattle.script.proofs.Outputs as Outputs
 use Rattle.runfile.specs.Reading.{read_of}
 use Rattle.runfile.proofs.Bounds.{number_read, k_read}
-use Rattle.runtext.specs.declared.Printed.{Printed}
+use Rattle.rules.specs.Reason.{Numbers}
 use Rattle.runtext.specs.Text.{file_text, printed, print_of, printed_on, PrintedTo}
 use Rattle.runtext.specs.Output.{PrintOutput, PrintOutputSettled, PrintOutputWhole}
 use Rattle.runtext.proofs.Prints.{length-file-text}
 
-module _ (file out after : List ℕ) (p : Printed) (w : PrintedTo file out p after) where
-  abbrev x : Printed
+module _ (file out after : List ℕ) (p : Numbers) (w : PrintedTo file out p after) where
+  abbrev x : Numbers
   x = print_of file (length out)
 
   answered : Outputs.Answered (file_text file) (length out) x.refused x.k x.len
@@ -34,7 +34,7 @@ module _ (file out after : List ℕ) (p : Printed) (w : PrintedTo file out p aft
   pub text_there : p.refused ≡ 0 → PrintOutput file out (record { refused = false; len = p.len }) after
   unfolding printed_on
   text_there z =
-      let e : x.refused ≡ 0 = ap (λ (p : Printed). p.refused) (sym w.answered) ∙ z in
+      let e : x.refused ≡ 0 = ap (λ (p : Numbers). p.refused) (sym w.answered) ∙ z in
       record { refused = rw (eq-eqb x.refused 0 e) refl; output = rw w.answered (Outputs.text_there answered w.left e) }
 
   -- refused: the line, as far as the buffer goes
@@ -42,7 +42,7 @@ module _ (file out after : List ℕ) (p : Printed) (w : PrintedTo file out p aft
       → len ≡ min j (length after) → PrintOutput file out (record { refused = true; len = len }) after'
   unfolding printed_on
   line_there h v len m =
-      let n : x.refused ≡ 0 → ⊥ = λ z. h (ap (λ (p : Printed). p.refused) w.answered ∙ z) in
+      let n : x.refused ≡ 0 → ⊥ = λ z. h (ap (λ (p : Numbers). p.refused) w.answered ∙ z) in
       record { refused = rw (ne_eqb x.refused 0 n) refl; output = Outputs.line_there answered w.left n (rw w.answered at v) len m }
 
 pub output_is_settled : PrintOutputSettled

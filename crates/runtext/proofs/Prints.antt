@@ -8,7 +8,7 @@ use lib.ListN.{length}
 use Rattle.octets.specs.Bytes.{AllBytes}
 use Rattle.script.specs.Wrote.{Wrote}
 use Rattle.script.proofs.Writes.{size, in_front}
-use Rattle.runfile.specs.declared.ReadAnswer.{ReadAnswer}
+use Rattle.runfile.specs.Reading.{ReadAnswer}
 use Rattle.runfile.specs.Reading.{read_of, table_of, turns_of}
 use Rattle.runfile.proofs.Trailers.{bytes_part}
 use Rattle.runtext.specs.Text.{text_of, file_text, printed, print_of, printed_on, PrintedTo}

@@ -5,7 +5,7 @@ use Rattle.script.specs.Kind.{kind_word}
 use Rattle.runfile.specs.declared.CallRecord.{CallRecord}
 use Rattle.runfile.specs.Layout.{records, call_of}
 use Rattle.runfile.specs.Reading.{read_of, table_of, turns_of}
-use Rattle.runtext.specs.declared.Printed.{Printed}
+use Rattle.rules.specs.Reason.{Numbers}
 use Rattle.runtext.specs.Letters.{newline, space, start_word, stations_word, turns_word}
 
 -- `start X` and `stations N`, a line each
@@ -50,11 +50,11 @@ text_of x n table turns = head_text x n ++ calls_text table (records table) ++ t
 abbrev pub file_text : List ℕ → List ℕ
 file_text file = text_of (read_of file).x (read_of file).n (table_of file) (turns_of file)
 
-abbrev pub printed : ℕ → ℕ → ℕ → Printed
+abbrev pub printed : ℕ → ℕ → ℕ → Numbers
 printed refused k len = record { refused = refused; k = k; len = len }
 
 -- the file's refusal with its K; then 14: lent buffer shorter than the text
-unfoldable pub print_of : List ℕ → ℕ → Printed
+unfoldable pub print_of : List ℕ → ℕ → Numbers
 print_of file room =
     cond (eqb (read_of file).refused 0)
     (cond (ltb room (length (file_text file))) (printed 14 0 0) (printed 0 0 (length (file_text file))))
@@ -66,6 +66,6 @@ printed_on file out =
     cond (eqb (print_of file (length out)).refused 0) (file_text file ++ drop (length (file_text file)) out) out
 
 -- the answer and the buffer that printing hands back
-pub record PrintedTo (file out : List ℕ) (answer : Printed) (after : List ℕ) : Type 0 where
+pub record PrintedTo (file out : List ℕ) (answer : Numbers) (after : List ℕ) : Type 0 where
   pub answered : answer ≡ print_of file (length out)
   pub left : after ≡ printed_on file out

@@ -10,13 +10,13 @@ use Rattle.script.specs.Output.{refused_text, output_of, OutputTo}
 use Rattle.script.proofs.Outputs as Outputs
 use Rattle.runfile.specs.Reading.{read_of}
 use Rattle.runfile.proofs.Bounds.{number_read, k_read}
-use Rattle.sheet.specs.declared.Reported.{Reported}
+use Rattle.rules.specs.Reason.{Numbers}
 use Rattle.sheet.specs.Report.{report_text, reported, report_of, reported_on, ReportedTo}
 use Rattle.sheet.specs.Output.{report_output, ReportOutputWhole}
 use Rattle.sheet.proofs.Lengths.{length-report}
 
-module _ (file out after : List ℕ) (p : Reported) (w : ReportedTo file out p after) where
-  abbrev x : Reported
+module _ (file out after : List ℕ) (p : Numbers) (w : ReportedTo file out p after) where
+  abbrev x : Numbers
   x = report_of file (length out)
 
   answered : Outputs.Answered (report_text file) (length out) x.refused x.k x.len
@@ -31,14 +31,14 @@ module _ (file out after : List ℕ) (p : Reported) (w : ReportedTo file out p a
   -- nothing refused: the text is there
   pub text_there : p.refused ≡ 0 → OutputTo (report_output file (length out)) out p.len after
   unfolding reported_on
-  text_there z = rw w.answered (Outputs.text_there answered w.left (ap (λ (p : Reported). p.refused) (sym w.answered) ∙ z))
+  text_there z = rw w.answered (Outputs.text_there answered w.left (ap (λ (p : Numbers). p.refused) (sym w.answered) ∙ z))
 
   -- refused: the line, as far as the buffer goes
   pub line_there : (p.refused ≡ 0 → ⊥) → {after' : List ℕ} {j : ℕ} → Wrote after after' 0 j (refused_text p.refused p.k) → (len : ℕ)
       → len ≡ min j (length after) → OutputTo (report_output file (length out)) out len after'
   unfolding reported_on
   line_there h v len m =
-      Outputs.line_there answered w.left (λ z. h (ap (λ (p : Reported). p.refused) w.answered ∙ z)) (rw w.answered at v) len m
+      Outputs.line_there answered w.left (λ z. h (ap (λ (p : Numbers). p.refused) w.answered ∙ z)) (rw w.answered at v) len m
 
 pub output_is_whole : ReportOutputWhole
 unfolding ReportOutputWhole report_of

@@ -19,7 +19,7 @@ use Rattle.run.specs.Drive.{run_of_file}
 use Rattle.run.specs.Row.{row_places}
 use Rattle.run.specs.Trace.{row_of, trace_by, trace_of, TracedTo, book_of}
 use Rattle.run.proofs.Back.{file_long}
-use Rattle.sheet.specs.declared.Reported.{Reported}
+use Rattle.rules.specs.Reason.{Numbers}
 use Rattle.limits.specs.Small.{SmallNumbers}
 use Rattle.limits.proofs.Promised.{small_numbers}
 use Rattle.lines.specs.Lines.{sheet_text}
@@ -101,7 +101,7 @@ module _ (file out row row' : List ℕ) (t : Trace) (f : length row ≡ row_plac
         at_most = rw same_text (length-report file h well)
 
         -- the sheet in the buffer is the file's report
-        pub the_report : {r : Reported} {after : List ℕ} → LaidOn (sheet_text t table (book_of t row')) out r after → ReportedTo file out r after
+        pub the_report : {r : Numbers} {after : List ℕ} → LaidOn (sheet_text t table (book_of t row')) out r after → ReportedTo file out r after
         unfolding report_of reported_on
         the_report v =
             let b = eq-eqb (read_of file).refused 0 well in

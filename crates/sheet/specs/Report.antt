@@ -5,7 +5,7 @@ use Rattle.runfile.specs.Reading.{read_of, table_of}
 use Rattle.run.specs.Run.{Run}
 use Rattle.run.specs.Drive.{run_of_file}
 use Rattle.run.specs.Trace.{trace_by}
-use Rattle.sheet.specs.declared.Reported.{Reported}
+use Rattle.rules.specs.Reason.{Numbers}
 use Rattle.lines.specs.Lines.{sheet_text}
 
 -- the sheet of a run of a table of so many calls
@@ -16,11 +16,11 @@ run_text calls table r = sheet_text (trace_by calls r) table r.book
 unfoldable pub report_text : List ℕ → List ℕ
 report_text file = run_text (read_of file).q (table_of file) (run_of_file file)
 
-abbrev pub reported : ℕ → ℕ → ℕ → Reported
+abbrev pub reported : ℕ → ℕ → ℕ → Numbers
 reported refused k len = record { refused = refused; k = k; len = len }
 
 -- the file's refusal with its K; then 14: lent buffer shorter than the text
-unfoldable pub report_of : List ℕ → ℕ → Reported
+unfoldable pub report_of : List ℕ → ℕ → Numbers
 report_of file room =
     cond (eqb (read_of file).refused 0)
     (cond (ltb room (length (report_text file))) (reported 14 0 0) (reported 0 0 (length (report_text file))))
@@ -32,12 +32,12 @@ reported_on file out =
     cond (eqb (report_of file (length out)).refused 0) (report_text file ++ drop (length (report_text file)) out) out
 
 -- a text in the buffer, or 14 and the buffer as it was where it is shorter than the text
-pub record LaidOn (text out : List ℕ) (answer : Reported) (after : List ℕ) : Type 0 where
+pub record LaidOn (text out : List ℕ) (answer : Numbers) (after : List ℕ) : Type 0 where
   pub answered : answer ≡ cond (ltb (length out) (length text)) (reported 14 0 0) (reported 0 0 (length text))
   pub left : after ≡ cond (ltb (length out) (length text)) out (text ++ drop (length text) out)
 
 -- the answer and the buffer that the report hands back
-pub record ReportedTo (file out : List ℕ) (answer : Reported) (after : List ℕ) : Type 0 where
+pub record ReportedTo (file out : List ℕ) (answer : Numbers) (after : List ℕ) : Type 0 where
   pub answered : answer ≡ report_of file (length out)
   pub left : after ≡ reported_on file out
 
@@ -47,4 +47,4 @@ AlwaysEnough = (file : List ℕ) (room : ℕ) → AllBytes file → 40960 ≤ ro
 
 -- two answers with their buffers that the contract allows for one input are the same
 unfoldable pub ReportSettled : Type 0
-ReportSettled = (file out : List ℕ) (a b : Reported) (c d : List ℕ) → ReportedTo file out a c → ReportedTo file out b d → (a ≡ b) × (c ≡ d)
+ReportSettled = (file out : List ℕ) (a b : Numbers) (c d : List ℕ) → ReportedTo file out a c → ReportedTo file out b d → (a ≡ b) × (c ≡ d)

@@ -3,7 +3,7 @@ use mathlib.Core.Path.{◌≡◌, refl, sym, ◌∙◌, ap}
 use mathlib.Core.List.{List}
 use Prim.Native.Nat.{ℕ}
 use borrow.Author.Tests.{eq-eqb, ne_eqb}
-use Rattle.runfile.specs.declared.ReadAnswer.{ReadAnswer}
+use Rattle.runfile.specs.Reading.{ReadAnswer}
 use Rattle.runfile.specs.Reading.{read_of}
 use Rattle.stepbench.specs.Answer.{number_left}
 

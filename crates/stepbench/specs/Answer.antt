@@ -3,14 +3,12 @@
 use Rattle.std.specs.Prelude.{◌≡◌, cond, List, ℕ, ◌-◌, ◌^◌, ◌≤◌, min, eqb, length}
 use Rattle.octets.specs.Bytes.{AllBytes}
 use Rattle.rules.specs.Limits.{turn_limit}
-use Rattle.sheet.specs.declared.Reported.{Reported}
+use Rattle.rules.specs.Reason.{Numbers}
 use Rattle.sheet.specs.Report.{report_of}
-use Rattle.runfile.specs.declared.WriteAnswer.{WriteAnswer}
 use Rattle.runfile.specs.Reading.{longest, read_of}
 use Rattle.runfile.specs.Writing.{write_of}
-use Rattle.runtext.specs.declared.Printed.{Printed}
 use Rattle.runtext.specs.Text.{print_of}
-use Rattle.drafting.specs.declared.Parsed.{Parsed}
+use Rattle.drafting.specs.Parse.{Parsed}
 use Rattle.drafting.specs.Parse.{parse_of}
 use Rattle.stepbench.specs.Word.{packed_word, Apart}
 
@@ -28,10 +26,10 @@ text_room = 153635
 abbrev pub file_room : ℕ
 file_room = longest
 
-abbrev pub reported_word : Reported → ℕ
+abbrev pub reported_word : Numbers → ℕ
 reported_word r = packed_word r.refused r.k r.len
 
-abbrev pub printed_word : Printed → ℕ
+abbrev pub printed_word : Numbers → ℕ
 printed_word r = packed_word r.refused r.k r.len
 
 -- what was expected, and the line; one that does not fit is told as the largest that does
@@ -41,7 +39,7 @@ line_told line = min line last_line
 abbrev pub parsed_word : Parsed → ℕ
 parsed_word r = packed_word r.expected (line_told r.line) r.len
 
-abbrev pub written_word : WriteAnswer → ℕ
+abbrev pub written_word : Numbers → ℕ
 written_word r = packed_word r.refused r.k r.len
 
 abbrev pub report_word : List ℕ → List ℕ → ℕ

@@ -6,7 +6,7 @@ use mathlib.Core.List.{List}
 use Rattle.bench.specs.declared.Made.{Made}
 use Rattle.bench.specs.Record.{blank}
 use Rattle.bench.specs.Turn.{fresh_of}
-use Rattle.runfile.specs.declared.ReadAnswer.{ReadAnswer}
+use Rattle.runfile.specs.Reading.{ReadAnswer}
 use Rattle.runfile.specs.Layout.{part}
 use Rattle.runfile.specs.Reading.{read_of, table_of, turns_of}
 use Rattle.runfile.proofs.Answers.{Inside, inside}

@@ -1,6 +1,6 @@
 -- The run is made in the front of the row.
 use mathlib.Core.Path.{◌≡◌, ◌∙◌, sym, ap}
-use Rattle.runfile.specs.declared.ReadAnswer.{ReadAnswer}
+use Rattle.runfile.specs.Reading.{ReadAnswer}
 use Rattle.runfile.specs.Reading.{read_of}
 use Rattle.run.proofs.Traces.{refused, front_cleared, too_short, long_enough}
 use Rattle.run.proofs.tracing.traced.Goals as goal

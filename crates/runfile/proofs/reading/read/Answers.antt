@@ -1,4 +1,4 @@
-use mathlib.Core.Path.{◌≡◌, ◌∙◌, ap}
+use mathlib.Core.Path.{◌≡◌, refl, ◌∙◌, ap}
 use mathlib.Core.Bool.{false}
 use mathlib.Core.List.{List}
 use Prim.Native.Nat.{ℕ, ◌-◌, ◌≤◌}
@@ -11,6 +11,10 @@ use Rattle.runfile.specs.declared.Trailer.{Trailer}
 use Rattle.runfile.specs.Layout.{part, trailer_of}
 use Rattle.runfile.specs.Reading.{bad_length, longest, trailer_at, read_of}
 use Rattle.runfile.proofs.Answers.{refuses, gives}
+use Rattle.rules.specs.Row.{verdict}
+use Rattle.rules.specs.Reason.{number_of, k_of}
+use Rattle.rules.proofs.Reasons.{above}
+use Rattle.std.proofs.lemmas.Result.{err_from_is_err_and}
 use Rattle.runfile.proofs.reading.read.Goals as goal
 
 -- past refusal 1 there is a trailer
@@ -25,13 +29,14 @@ told f z h e = e ∙ ap (λ k. trailer_of (part f (length f - 16) k)) (last (len
 
 pub returns-then-len : goal.returns-then-len
 unfolding read_of
-returns-then-len c = simp (c.if-len.true, c.refused.ensures)
+returns-then-len c = simp c.if-len.true refl
 
-pub returns-then-v-ne0 : goal.returns-then-v-ne0
-unfolding read_of
-returns-then-v-ne0 c =
-    c.refused-then-v-ne0.ensures ∙ refuses c.args.file.now c.if-len.false c.trailer_at-z.result (told c.args.file.now c.trailer_at-z.result c.if-len.false c.trailer_at-z.ensures) c.judged-v.result c.judged-v.ensures c.if-v-ne0.true
+pub returns-in_err-judged : goal.returns-in_err-judged
+returns-in_err-judged c =
+    let p = err_from_is_err_and c.from_residual.result c.from_residual.ensures.1 in
+    let e = c.in_err-judged.field-0.0 in
+    rw (p.1, p.2) (refuses c.args.file.now c.if-len.false c.trailer_at-z.result (told c.args.file.now c.trailer_at-z.result c.if-len.false c.trailer_at-z.ensures) (verdict (number_of e) (k_of e)) c.in_err-judged.ensures (above e))
 
 pub returns : goal.returns
-unfolding read_of
-returns c = gives c.args.file.now c.if-len.false c.trailer_at-z.result (told c.args.file.now c.trailer_at-z.result c.if-len.false c.trailer_at-z.ensures) c.judged-v.result c.judged-v.ensures c.if-v-ne0.false
+returns c =
+    gives c.args.file.now c.if-len.false c.trailer_at-z.result (told c.args.file.now c.trailer_at-z.result c.if-len.false c.trailer_at-z.ensures) (verdict 0 0) (rw c.in_ok-judged.was at c.judged.ensures) refl
