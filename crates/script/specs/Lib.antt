@@ -1,4 +1,5 @@
 pub mod Wrote
+pub mod Page
 pub mod Quote
 pub mod Decimal
 pub mod Kind

@@ -1,6 +1,6 @@
 use borrow.Author.Rules.{rules}
 use Rattle.script.specs.Kind.{kind_word}
-use Rattle.script.proofs.kind.Goals as goal
+use Rattle.script.proofs.Page.kind.Goals as goal
 
 pub returns-in-0 : goal.returns-in-0
 unfolding kind_word
