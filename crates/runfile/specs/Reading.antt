@@ -4,7 +4,7 @@ use Rattle.rules.specs.Limits.{station_limit, call_limit, turn_limit, bad_statio
 use Rattle.rules.specs.Row.{Verdict, Row, row, verdict_of}
 use Rattle.rules.specs.Reason.{number_of, k_of}
 use Rattle.rules.specs.declared.Reason.{Reason}
-use Rattle.runfile.specs.declared.Run.{Run}
+use Rattle.runfile.specs.declared.Contents.{Contents}
 use Rattle.runfile.specs.declared.Trailer.{Trailer}
 use Rattle.runfile.specs.First.{first_of}
 use Rattle.runfile.specs.Layout.{part, field, zero_byte, records, call_bytes, trailer_of}
@@ -101,7 +101,7 @@ abbrev pub run_by : Trailer → ReadAnswer
 run_by z = record { refused = 0; k = 0; x = z.x; n = z.n; q = z.q; t = turn_count z; start = 0; middle = 12 * z.q }
 
 -- the numbers of the reader's answer, a run or the reason why it is refused
-abbrev pub read_numbers : Result Run Reason → ReadAnswer
+abbrev pub read_numbers : Result Contents Reason → ReadAnswer
 read_numbers (Ok r) = record { refused = 0; k = 0; x = r.x; n = r.n; q = r.q; t = r.t; start = 0; middle = 12 * r.q }
 read_numbers (Err e) = no_run (number_of e) (k_of e)
 

@@ -17,9 +17,9 @@ pub use promises::{
 pub use reading::{part, read, table, turns};
 pub use writing::write;
 
-// The numbers of a run: x, n, the number of calls q and of turns t.
+// What a run file holds: x, n, and how many calls q and turns t.
 #[derive(Clone, Copy, PartialEq, Eq)]
-pub struct Run {
+pub struct Contents {
     pub x: u32,
     pub n: u32,
     pub q: usize,

@@ -7,7 +7,7 @@ ghost use Rattle.runfile.specs.Reading.{trailer_rows, read_numbers, read_of, tab
 
 use crate::checks::{limits, parts};
 use crate::layout::trailer_at;
-use crate::{Run, Trailer};
+use crate::{Contents, Trailer};
 use rules::{CALLS, Reason, TURNS};
 
 // The bytes of the longest file.
@@ -31,7 +31,7 @@ fn judged(file: &[u8], z: Trailer) -> Result<(), Reason>
 }
 
 // What the file holds, or its refusal.
-pub fn read(file: &[u8]) -> Result<Run, Reason>
+pub fn read(file: &[u8]) -> Result<Contents, Reason>
     ensures { read_numbers result ≡ read_of file.now }
 {
     let len = file.len();
@@ -41,7 +41,7 @@ pub fn read(file: &[u8]) -> Result<Run, Reason>
     let a = len - 16;
     let z = trailer_at(&file[a..len]);
     judged(file, z)?;
-    Ok(Run {
+    Ok(Contents {
         x: z.x,
         n: z.n,
         q: z.q as usize,

@@ -7,8 +7,8 @@ ghost use Rattle.rules.specs.Reason.{numbers, verdict_in};
 ghost use Rattle.runfile.specs.Layout.{trailer_bytes, file_of};
 ghost use Rattle.runfile.specs.Writing.{file_length, write_rows, Written};
 
-use crate::checks::{limits, parts};
 use crate::Trailer;
+use crate::checks::{limits, parts};
 use rules::Reason;
 
 // Copies s into the buffer, from place at on.
