@@ -11,14 +11,14 @@ use Rattle.std.specs.Prelude.{Ok, Err}
 use Rattle.rules.specs.Row.{Verdict, verdict, verdict_of}
 use Rattle.rules.specs.Reason.{number_of, k_of, verdict_in}
 use Rattle.rules.specs.declared.Reason.{Reason}
-use Rattle.rules.proofs.Reasons.{above}
+use Rattle.rules.proofs.Reasons.{above, numbers_tell}
 use Rattle.rules.proofs.Facts.{either_way, or_none}
 use Rattle.rules.proofs.Rows.{Clear, clear, clear_front, clear_back, none_given, silent, chosen}
 use Rattle.runfile.specs.declared.Contents.{Contents}
 use Rattle.runfile.specs.declared.Trailer.{Trailer}
 use Rattle.runfile.specs.Layout.{part, trailer_of}
 use Rattle.runfile.specs.Reading.{ReadAnswer, turn_count, agrees, trailer_at, number_rows, content_rows, trailer_rows, longest, bad_length, read_rows, no_run, run_by, read_numbers, read_by, read_of}
-use Rattle.runfile.specs.Promise.{TrailerPointsBack}
+use Rattle.runfile.specs.Promise.{TrailerPointsBack, ReadsSettled}
 use Rattle.runfile.proofs.Limits.{within, Agreed, agreed}
 
 -- the answer to a file with a trailer, from the verdict on it
@@ -117,3 +117,14 @@ points_back f e =
     let a = g.agree in
     (omega arith, omega arith)) e in
     record { to_calls = b.0; to_turns = b.1 }
+
+-- what an answer of these numbers holds, where it is not refused
+held : ReadAnswer → Contents
+held a = record { x = a.x; n = a.n; q = a.q; t = a.t }
+
+pub reads_settled : ReadsSettled
+unfolding ReadsSettled held
+reads_settled (Ok r) (Ok s) e = ap (λ a. Ok (held a)) e
+reads_settled (Ok r) (Err d) e = absurd (above d (sym (ap (λ a. a.refused) e)))
+reads_settled (Err d) (Ok s) e = absurd (above d (ap (λ a. a.refused) e))
+reads_settled (Err d) (Err f) e = ap Err (numbers_tell.reasons d f (ap (λ a. a.refused) e) (ap (λ a. a.k) e))

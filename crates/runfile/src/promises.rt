@@ -1,5 +1,5 @@
 // What is proved of reading and writing together; each function stands for the promise that it ensures.
-ghost use Rattle.runfile.specs.Promise.{CallsSpelled, WrittenReadsBack, WritesOnlyOutput, ReadWritesBack, TrailerPointsBack, WriterEnough, RefusedExactly, WriterSettled};
+ghost use Rattle.runfile.specs.Promise.{CallsSpelled, WrittenReadsBack, WritesOnlyOutput, ReadWritesBack, TrailerPointsBack, WriterEnough, RefusedExactly, WriterSettled, ReadsSettled};
 
 // The bytes of a call tell the call, and are told by it.
 #[tactic(auto, using(crate::proofs::Calls::calls_spelled))]
@@ -47,4 +47,10 @@ pub fn refused_exactly()
 #[tactic(auto, using(crate::proofs::Exact::writer_settled))]
 pub fn writer_is_settled()
     ensures { WriterSettled }
+{}
+
+// The numbers of the reader's answer, which its contract gives, tell the answer.
+#[tactic(auto, using(crate::proofs::Answers::reads_settled))]
+pub fn reads_are_settled()
+    ensures { ReadsSettled }
 {}
