@@ -70,6 +70,7 @@ impl<'a> Page<'a> {
     }
 
     // The word for a call's kind: 0 is read, 1 set, any other swap.
+    #[tactic(auto, unfolding(crate::specs::Kind::kind_word))]
     pub fn kind(&mut self, kind: u32)
         ensures { Writes self.old self.new (kind_word kind) }
     {
@@ -93,16 +94,19 @@ impl<'a> Page<'a> {
 }
 
 // The contract of a writer allows one buffer and one next place for each input.
+#[tactic(auto, using(crate::proofs::Writes::writers_are_settled))]
 pub fn writers_are_settled()
     ensures { WritersSettled }
 {}
 
 // The contract of a program's output allows one length and one buffer for each output.
+#[tactic(auto, using(crate::proofs::Outputs::outputs_are_settled))]
 pub fn outputs_are_settled()
     ensures { OutputSettled }
 {}
 
 // Where the buffer has room for it, its front is the output.
+#[tactic(auto, using(crate::proofs::Outputs::outputs_are_whole))]
 pub fn outputs_are_whole()
     ensures { OutputWhole }
 {}
