@@ -29,7 +29,7 @@ impl SoundBench {
             r: self.bench.r[to],
             station: t,
         };
-        let m = g.moved(offer.kind, offer.a, offer.b);
+        let m = g.moved(offer);
         self.bench.v = m.reach.v;
         self.bench.p = m.reach.p;
         self.bench.a[to] = m.reach.a;
