@@ -1,5 +1,5 @@
 // The test of a sound bench, sentence by sentence. It assumes nothing of the bench.
-ghost use Rattle.std.specs.Prelude.{◌≡◌, ◌<◌};
+ghost use Rattle.std.specs.Prelude.{◌≡◌, ◌<◌, not, ◌||◌};
 ghost use Rattle.rules.specs.Test.{passes, pass, all_kept};
 ghost use Rattle.reach.specs.Step.{count_limit};
 ghost use Rattle.bench.specs.Record.{a_at, r_at, station_at};
@@ -8,6 +8,13 @@ ghost use Rattle.bench.specs.Sound.{unread, zero_but_count, own_turns, called, a
 use crate::Bench;
 use card::{Claim, Halves};
 use method::{Place, Station};
+
+// What is asked under a condition alone.
+fn given(condition: bool, asked: bool) -> bool
+    ensures { result ≡ (not condition || asked) }
+{
+    !condition | asked
+}
 
 fn zero(e: Halves) -> bool
     ensures { result ≡ pass (zero_halves e) }
@@ -18,7 +25,7 @@ fn zero(e: Halves) -> bool
 fn unread(t: Station) -> bool
     ensures { result ≡ pass (unread t) }
 {
-    (t.saw == Claim::default()) & zero(t.entry)
+    t.saw == Claim::default() && zero(t.entry)
 }
 
 fn zero_but_count(t: Station) -> bool
@@ -45,25 +52,26 @@ fn own_turns(t: Station) -> bool
         Place::At16 => t.own == 6,
         Place::At18 => t.own == 7,
         Place::At19 => t.own == 8,
-        Place::At20 => (t.own == 7) | (t.own == 9),
+        Place::At20 => t.own == 7 || t.own == 9,
     }
 }
 
 fn called(t: Station, n: u32) -> bool
     ensures { result ≡ pass (called count_limit n t) }
 {
-    ((t.call.kind == 1) | (t.call.kind == 2))
-        & ((t.call.a != t.call.b)
-            & ((t.s % 2 == 0)
-                & ((t.s <= Bench::VERSION)
-                    & ((t.saw.pid <= n)
-                        & ((t.saw.c <= Bench::COUNT) & (t.entry.first <= Bench::COUNT))))))
+    (t.call.kind == 1 || t.call.kind == 2)
+        && t.call.a != t.call.b
+        && t.s % 2 == 0
+        && t.s <= Bench::VERSION
+        && t.saw.pid <= n
+        && t.saw.c <= Bench::COUNT
+        && t.entry.first <= Bench::COUNT
 }
 
 fn agreed(t: Station) -> bool
     ensures { result ≡ pass (agreed t) }
 {
-    (t.saw.seq % 2 == 0) & (t.saw.c == t.entry.first)
+    t.saw.seq % 2 == 0 && t.saw.c == t.entry.first
 }
 
 fn station_ok(t: Station, n: u32, i: u32) -> bool
@@ -71,37 +79,40 @@ fn station_ok(t: Station, n: u32, i: u32) -> bool
 {
     let k = t.place.number();
     let zero_but_count = zero_but_count(t);
-    let fresh = (t.c == 0) & ((k == 0) & zero_but_count);
-    (t.c <= Bench::COUNT)
-        & ((!(n < i) | fresh)
-            & ((!(i == 0) | fresh)
-                & ((!(k == 0) | zero_but_count)
-                    & (own_turns(t)
-                        & ((!!(k == 0) | called(t, n))
-                            & ((!(k == 11) | (t.c < Bench::COUNT))
-                                & ((!((11 <= k) & (k <= 15)) | unread(t))
-                                    & ((!(k == 16) | zero(t.entry))
-                                        & (!((k == 18) | (k == 19)) | agreed(t))))))))))
+    let fresh = t.c == 0 && k == 0 && zero_but_count;
+    t.c <= Bench::COUNT
+        && given(n < i, fresh)
+        && given(i == 0, fresh)
+        && given(k == 0, zero_but_count)
+        && own_turns(t)
+        && given(k != 0, called(t, n))
+        && given(k == 11, t.c < Bench::COUNT)
+        && given((11 <= k) & (k <= 15), unread(t))
+        && given(k == 16, zero(t.entry))
+        && given((k == 18) | (k == 19), agreed(t))
 }
 
 fn a_ok(a: Halves, n: u32, i: u32) -> bool
     ensures { result ≡ all_kept (a_rules count_limit n i a) }
 {
-    (a.first <= Bench::COUNT) & (!(n < i) | zero(a))
+    a.first <= Bench::COUNT && given(n < i, zero(a))
 }
 
 fn r_ok(r: Halves, n: u32, i: u32) -> bool
     ensures { result ≡ all_kept (r_rules count_limit n i r) }
 {
-    ((r.first <= Bench::COUNT) & (r.second <= 1)) & (!(n < i) | zero(r))
+    r.first <= Bench::COUNT && r.second <= 1 && given(n < i, zero(r))
 }
 
 impl Bench {
     fn head_ok(&self) -> bool
         ensures { result ≡ all_kept (head_rules count_limit self.now) }
     {
-        ((1 <= self.n) & (self.n <= Self::STATIONS))
-            & ((self.p.c <= Self::COUNT) & ((self.v.first % 2 == 0) & (self.p.pid <= self.n)))
+        1 <= self.n
+            && self.n <= Self::STATIONS
+            && self.p.c <= Self::COUNT
+            && self.v.first % 2 == 0
+            && self.p.pid <= self.n
     }
 
     // Entry i of A and R, and station i.
@@ -112,7 +123,8 @@ impl Bench {
     {
         let at = i as usize;
         a_ok(self.a[at], self.n, i)
-            & (r_ok(self.r[at], self.n, i) & station_ok(self.stations[at], self.n, i))
+            && r_ok(self.r[at], self.n, i)
+            && station_ok(self.stations[at], self.n, i)
     }
 
     #[tactic(auto, unfolding(crate::specs::Sound::each_entry))]
@@ -132,6 +144,6 @@ impl Bench {
     pub fn sound(self) -> bool
         ensures { result ≡ sound self }
     {
-        self.head_ok() & self.entries_ok()
+        self.head_ok() && self.entries_ok()
     }
 }
