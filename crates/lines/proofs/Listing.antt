@@ -1,15 +1,16 @@
 -- Lines one after the other, from what was read of the call table and of the row. Assumes nothing.
-use mathlib.Core.Path.{◌≡◌, ◌∙◌, sym}
-use mathlib.Core.Bool.{not}
-use mathlib.Core.List.{List, [], ◌∷◌}
-use Prim.Native.Nat.{ℕ, zero, suc, ◌+◌, ◌<◌, ◌≤◌}
-use native.Mathlib.Omega.{arith}
+use mathlib.Core.Path.{◌≡◌, ◌∙◌, sym, ap}
+use Rattle.std.specs.Prelude.{Option, None, Some}
+use mathlib.Core.Bool.{cond}
+use mathlib.Core.List.{List}
+use Prim.Native.Nat.{ℕ, ◌+◌, ◌<◌}
 use native.Mathlib.Numerals.{add-one}
 use lib.Dec.{eqb}
-use lib.ListN.{length, get_or, take, drop, get_or-eq_default}
-use lib.Seq.{get_or-take, get_or-drop}
-use Rattle.script.specs.Wrote.{Wrote}
-use Rattle.script.proofs.Writes.{and_then}
+use lib.ListN.{get_or}
+use lib.Seq.{get_or-take}
+use Rattle.script.specs.declared.Page.{Page}
+use Rattle.script.specs.Page.{Writes}
+use Rattle.script.proofs.Pages.{then}
 use Rattle.runfile.specs.declared.CallRecord.{CallRecord}
 use Rattle.runfile.specs.Layout.{part, call_of}
 use Rattle.run.specs.declared.Trace.{Trace}
@@ -19,40 +20,23 @@ use Rattle.run.specs.Trace.{book_of}
 use Rattle.lines.specs.declared.Line.{Line}
 use Rattle.lines.specs.Lines.{line_text, line_of, lines_text}
 
-no_longer : (n : ℕ) (l : List ℕ) → length (take n l) ≤ n
-no_longer zero l = omega arith
-no_longer (suc n) [] = omega arith
-no_longer (suc n) (x ∷ l) = omega (arith, no_longer n l)
-
--- a place of a part by call, in the row and past its end
-module _ (row : List ℕ) (start i : ℕ) where
-  pub in_row : i < by_call → get_or row (start + i) 0 ≡ get_or (part row start by_call) i 0
-  in_row h = sym (get_or-take by_call (drop start row) i 0 h ∙ get_or-drop start row i 0)
-
-  pub past_row : i < by_call → length row ≤ start + i → 0 ≡ get_or (part row start by_call) i 0
-  past_row h g = sym (get_or-eq_default row 0 g) ∙ in_row h
-
-  pub past_part : by_call ≤ i → 0 ≡ get_or (part row start by_call) i 0
-  past_part h = sym (get_or-eq_default (part row start by_call) 0 (omega (arith, no_longer by_call (drop start row))))
-
 module _ (table row : List ℕ) (t : Trace) where
   abbrev b : Book
   b = book_of t row
 
   -- a line from what was read of the table and of the row's parts
-  pub line_read : (place c : ℕ) (r : CallRecord) (own answer last point : ℕ) → r ≡ call_of table c → own ≡ get_or (part row 0 by_call) c 0
+  pub line_read : {place c own answer last point : ℕ} {r : CallRecord} {told : Option ℕ} → r ≡ call_of table c → own ≡ get_or (part row 0 by_call) c 0
       → answer ≡ get_or (part row 1025 by_call) c 0 → last ≡ get_or (part row 2050 by_call) c 0 → point ≡ get_or (part row 3075 by_call) c 0
-      → record { place = place; station = r.station; call = c; kind = r.kind; ended = not (eqb last 0); answer = answer; own = own; point = point }
-      ≡ line_of table b place c
+      → told ≡ cond (eqb last 0) None (Some answer)
+      → record { place = place; station = r.station; call = c; kind = r.kind; answer = told; own = own; point = point } ≡ line_of table b place c
   unfolding start_of size_of part_of
-  line_read place c r own answer last point e f g h k =
+  line_read {place} {c} {own} {answer} e f g h k a =
       λ i. record {
         place = place;
         station = (e i).station;
         call = c;
         kind = (e i).kind;
-        ended = not (eqb (h i) 0);
-        answer = g i;
+        answer = (a ∙ ap (λ l. cond (eqb l 0) None (Some answer)) h ∙ ap (λ x. cond (eqb (get_or b.last c 0) 0) None (Some x)) g) i;
         own = f i;
         point = k i;
       }
@@ -63,7 +47,7 @@ module _ (table row : List ℕ) (t : Trace) where
   listed_at i c h e = e ∙ sym (get_or-take t.listed (part row 4100 by_call) i 0 h)
 
   -- a line more
-  pub line_more : {before after last : List ℕ} {at o p : ℕ} (i c : ℕ) (l : Line) → l ≡ line_of table b (i + 1) c → c ≡ get_or b.list i 0
-      → Wrote before after at o (lines_text table b i) → Wrote after last o p (line_text l) → Wrote before last at p (lines_text table b (i + 1))
+  pub line_more : {p q r : Page} (i : ℕ) {c : ℕ} {l : Line} → l ≡ line_of table b (i + 1) c → c ≡ get_or b.list i 0
+      → Writes p q (lines_text table b i) → Writes q r (line_text l) → Writes p r (lines_text table b (i + 1))
   unfolding lines_text
-  line_more i c l e q v w = rw add-one (and_then v (rw (e, q, add-one) at w))
+  line_more i e f v w = rw add-one (then v (rw (e, f, add-one) at w))
