@@ -1,6 +1,7 @@
 -- Document 01, "Report": a line for each listed call, and a last line. One space between fields, one newline after each line, decimal without leading zeros.
 -- Assumes nothing.
-use Rattle.std.specs.Prelude.{cond, List, [], ◌++◌, Option, None, Some, ℕ, zero, suc, eqb, get_or}
+use Rattle.std.specs.Prelude.{cond, not, List, [], ◌++◌, Option, None, Some, ℕ, zero, suc, eqb, get_or}
+use Rattle.std.specs.Bool.{then_some}
 use Rattle.script.specs.Quote.{quote}
 use Rattle.script.specs.Decimal.{decimal}
 use Rattle.script.specs.Kind.{kind_word}
@@ -41,7 +42,7 @@ line_of table b place c =
       station = (call_of table c).station;
       call = c;
       kind = (call_of table c).kind;
-      answer = cond (eqb (get_or b.last c 0) 0) None (Some (get_or b.result c 0));
+      answer = then_some (not (eqb (get_or b.last c 0) 0)) (get_or b.result c 0);
       own = get_or b.own c 0;
       point = get_or b.point c 0;
     }

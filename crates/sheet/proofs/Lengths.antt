@@ -1,8 +1,9 @@
 -- How long a report is: a line has 38 bytes at most, the last one 41, all of them 38,953. Assumes nothing.
 use mathlib.Core.Path.{◌≡◌}
-use mathlib.Core.Bool.{Bool, true, false, cond}
+use mathlib.Core.Bool.{Bool, true, false, not}
 use mathlib.Core.List.{List}
 use Rattle.std.specs.Prelude.{Option, None, Some, IfSome}
+use Rattle.std.specs.Bool.{then_some}
 use Prim.Native.Nat.{ℕ, zero, suc, ◌+◌, ◌*◌, ◌^◌, ◌<◌, ◌≤◌}
 use native.Mathlib.Omega.{arith}
 use lib.Dec.{eqb}
@@ -34,9 +35,9 @@ length-answer kind (Some answer) h =
     (λ s. rw s (either_way (eqb answer 0) (λ z. rw z (omega arith)) (λ o. rw o (omega arith))))
     (λ s. rw s (length-decimal-32 answer h))
 
-some_below : (ended : Bool) (x : ℕ) → x < 2 ^ 32 → IfSome (cond ended None (Some x)) (λ x. x < 2 ^ 32)
-some_below true x h = tt
-some_below false x h = h
+some_below : (ended : Bool) (x : ℕ) → x < 2 ^ 32 → IfSome (then_some ended x) (λ x. x < 2 ^ 32)
+some_below true x h = h
+some_below false x h = tt
 
 pub record Short (l : Line) : Type 0 where
   pub place : l.place ≤ 1024
@@ -66,7 +67,7 @@ module _ (calls : ℕ) (table : List ℕ) (r : Run) (small : Small r) (stations 
         place = omega arith;
         station = omega (arith, stations c);
         call = small.calls i;
-        answer = some_below (eqb (get_or r.book.last c 0) 0) (get_or r.book.result c 0) (small.result c);
+        answer = some_below (not (eqb (get_or r.book.last c 0) 0)) (get_or r.book.result c 0) (small.result c);
         own = small.own c;
         point = small.point c;
       }

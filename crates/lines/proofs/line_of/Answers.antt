@@ -1,7 +1,7 @@
-use Rattle.std.proofs.Common.{rules}
-use Rattle.lines.proofs.Listing.{line_read}
+use mathlib.Core.Path.{refl}
+use Rattle.run.specs.Row.{start_of, size_of, part_of}
 use Rattle.lines.proofs.line_of.Goals as goal
 
 pub returns : goal.returns
-returns c = λ t.
-    line_read c.args.table.now c.args.row.now t c.call_at-r.ensures c.cell-2.ensures c.cell-answer.ensures c.cell.ensures c.cell-3.ensures (search rules)
+unfolding start_of size_of part_of
+returns c = λ t. simp (c.call_at-r.ensures, c.then_some.ensures, c.cell-answer.ensures, c.cell.ensures, c.cell-2.ensures, c.cell-3.ensures) refl
