@@ -1,7 +1,7 @@
 -- The run loop's invariant, and that one more turn keeps it. Assumes nothing.
 use mathlib.Core.Path.{◌≡◌, refl, ◌∙◌, sym, ap}
 use mathlib.Core.Logic.{⊎_elim}
-use mathlib.Core.Bool.{Bool, true, cond, ◌&&◌}
+use mathlib.Core.Bool.{Bool, true, false, cond, ◌&&◌}
 use mathlib.Core.List.{List}
 use Prim.Native.Nat.{ℕ, ◌+◌, ◌<◌, ◌≤◌}
 use native.Mathlib.Omega.{arith}
@@ -18,6 +18,7 @@ use Rattle.method.specs.declared.Station.{Station}
 use Rattle.method.specs.declared.Answer.{Answer}
 use Rattle.method.specs.declared.Answer.TheVariants.{Idle, Going, Ended, Refused}
 use Rattle.method.specs.Record.{at_rest, resting}
+use Rattle.method.specs.Effect.{raises}
 use Rattle.method.specs.Record as Answers
 use Rattle.reach.specs.declared.Moved.{Moved}
 use Rattle.reach.specs.Step.{count_limit}
@@ -32,8 +33,11 @@ use Rattle.bench.proofs.Promised.{turn_sound}
 use Rattle.run.specs.declared.Tally.{Tally}
 use Rattle.run.specs.declared.Errand.{Errand}
 use Rattle.run.specs.declared.Operation.{Operation}
-use Rattle.run.specs.Calls.{offer, offering, on_offer, call_for, errand_of, operation_of, waits}
+use Rattle.run.specs.Calls.{offer, offering, on_offer, call_for, errand_by, operation_of, waits}
 use Rattle.run.specs.Book.{Book, idles, finishes, unended}
+use Rattle.card.specs.declared.Claim.{Claim}
+use Rattle.run.specs.Ledger.{ClaimWithin, Within}
+use Rattle.std.specs.Prelude.{Option, None, Some}
 use Rattle.run.specs.Row.{by_station, size_of, start_of, part_of, book_in, notes_in, RowFits, Becomes, HasPlaces}
 use Rattle.run.specs.Run.{Run, noted, step_run, run_from}
 use Rattle.run.specs.Drive.{one_idle, Good, NotesOf}
@@ -83,6 +87,10 @@ saved At18 n t k = omega arith
 saved At19 n t k = omega arith
 saved At20 n t k = omega arith
 
+claimed : (raised : Bool) (saw : Claim) → saw.pid < by_station → ClaimWithin (cond raised (Some saw) None)
+claimed true saw h = h
+claimed false saw h = tt
+
 module _ (n : ℕ) (start : Run) (table turns : List ℕ) (w : Bench) (row : List ℕ) (s : Tally) (k : ℕ)
     (kept : Kept n start table turns w row s k) (more : k < length turns) (good : Good n table turns) (i : ℕ) (is : i ≡ get_or turns k 0) where
   abbrev t : Station
@@ -113,12 +121,12 @@ module _ (n : ℕ) (start : Run) (table turns : List ℕ) (w : Bench) (row : Lis
   inside = omega (arith, high, few)
 
   abbrev e : Errand
-  e = errand_of p (k + 1) i d l
+  e = errand_by p (k + 1) i d l
 
   -- the errand as the row has it
-  pub errand_is : errand_of p (k + 1) i (get_or row (5191 + i) 0) (get_or row (5125 + i) 0) ≡ e
+  pub errand_is : errand_by p (k + 1) i (get_or row (5191 + i) 0) (get_or row (5125 + i) 0) ≡ e
   unfolding start_of size_of
-  errand_is = ap (λ x. errand_of p (k + 1) i x (get_or row (5125 + i) 0)) (sym (read row 7 i inside)) ∙ ap (errand_of p (k + 1) i d) (sym (read row 5 i inside))
+  errand_is = ap (λ x. errand_by p (k + 1) i x (get_or row (5125 + i) 0)) (sym (read row 7 i inside)) ∙ ap (errand_by p (k + 1) i d) (sym (read row 5 i inside))
 
   has_places : HasPlaces e
   has_places = record {
@@ -132,11 +140,11 @@ module _ (n : ℕ) (start : Run) (table turns : List ℕ) (w : Bench) (row : Lis
 
   -- what the book asks of a turn that did not end its call
   pub may_go : (errand : Errand) (o : Operation) (made : ℕ) → errand ≡ e → o ≡ operation_of t w.v made n
-      → RowFits row s × (HasPlaces errand × ((s.begun < 65536) × ((o.n < by_station) × ((o.saw.pid < by_station) × (s.idle < 65536)))))
+      → RowFits row s × (HasPlaces errand × ((s.begun < 65536) × (Within o × (s.idle < 65536))))
   may_go errand o made errand_is o_is =
       let q : t.saw.pid ≤ w.n = saved p w.n t ((facts w kept.is_sound).station i inside).stands in
       rw (errand_is, o_is)
-      (kept.fits, (has_places, (omega (arith, kept.begun, good.few), (omega (arith, few, kept.same), (omega (arith, q, few), omega (arith, kept.idle, good.few))))))
+      (kept.fits, (has_places, (omega (arith, kept.begun, good.few), (record { claim = claimed (raises p w.v t) t.saw (omega (arith, q, few)); few = omega (arith, few, kept.same) }, omega (arith, kept.idle, good.few)))))
 
   -- and of one that ended it
   pub may_end : (errand : Errand) → errand ≡ e → RowFits row s × (HasPlaces errand × ((s.begun < 65536) × (s.ended < 65536)))
@@ -189,14 +197,14 @@ module _ (n : ℕ) (start : Run) (table turns : List ℕ) (w : Bench) (row : Lis
     begins h e = acting w table i d kept.is_sound low high e (λ q. h (ap (λ x. x.answer) turned ∙ q))
 
     noted_end : (result took : ℕ) → m.answer ≡ Ended result took → (z : Book)
-        → finishes (errand_of p (k + 1) i d l) (record { result = result; own = took }) (part_of row 8) z ≡ noted table w (k + 1) i (call_for p d l) ht.own m.answer z
+        → finishes (errand_by p (k + 1) i d l) (record { result = result; own = took }) (part_of row 8) z ≡ noted table w (k + 1) i (call_for p d l) ht.own m.answer z
     noted_end result took e z =
         ended_noted w table (part_of row 8) (part_of row 6) i d l (k + 1) kept.notes.after (kept.notes.mine i inside) result took ht.own z
         (begins (λ q. let n : ◌≡◌ {A = ℕ} 2 0 = ap (λ x. (Answers.told x).case) (sym e ∙ q) in omega arith))
         ∙ ap (λ x. noted table w (k + 1) i (call_for p d l) ht.own x z) (sym e)
 
     noted_by : (x : Answer) → ((result took : ℕ) → x ≡ Ended result took → ⊥) → m.answer ≡ x → (z : Book)
-        → unended x (errand_of p (k + 1) i d l) (operation_of t w.v ht.own w.n) (part_of row 8) (part_of row 6) z ≡ noted table w (k + 1) i (call_for p d l) ht.own x z
+        → unended x (errand_by p (k + 1) i d l) (operation_of t w.v ht.own w.n) (part_of row 8) (part_of row 6) z ≡ noted table w (k + 1) i (call_for p d l) ht.own x z
     unfolding unended noted
     noted_by Idle f e z = refl
     noted_by Going f e z =

@@ -32,7 +32,7 @@ use Rattle.bench.proofs.Sounds.{ready_at}
 use Rattle.bench.proofs.Bridge.{taken, put_back, step_law}
 use Rattle.runfile.specs.First.{first_from}
 use Rattle.runfile.specs.Layout.{records, call_of}
-use Rattle.run.specs.Calls.{made_by, call_after, offer, offering, on_offer, call_for, errand_of, waits, operation_of}
+use Rattle.run.specs.Calls.{made_by, call_after, offer, offering, on_offer, call_for, errand_by, waits, operation_of}
 use Rattle.run.specs.Book.{Book, acts, all_enter, call_ends, waiters, raisers, goes_on, finishes}
 use Rattle.run.specs.Run.{noted}
 use Rattle.run.proofs.Links.{none_after}
@@ -155,7 +155,7 @@ module _ (w : Bench) (table next wait : List ℕ) (i d l turn : ℕ)
       (λ e. rw e)
 
   pub ended_noted : (result took own : ℕ) (b : Book) → (at_rest here ≡ true → 0 < d)
-      → finishes (errand_of here turn i d l) (record { result = result; own = took }) next b ≡ noted table w turn i (call_for here d l) own (Ended result took) b
+      → finishes (errand_by here turn i d l) (record { result = result; own = took }) next b ≡ noted table w turn i (call_for here d l) own (Ended result took) b
   unfolding finishes noted points
   ended_noted result took own b h =
       ap (λ z. call_ends turn (call_for here d l) result (all_enter turn (cond (at_rest here) (i ∷ []) []) z)) (same_acts took b h)
@@ -173,7 +173,7 @@ module _ (w : Bench) (table next wait : List ℕ) (i d l turn : ℕ)
         (λ e. rw e)
 
     pub going_noted : (own : ℕ) (b : Book) → (at_rest here ≡ true → 0 < d)
-        → goes_on (errand_of here turn i d l) (operation_of t w.v own w.n) next wait b ≡ noted table w turn i (call_for here d l) own Going b
+        → goes_on (errand_by here turn i d l) (operation_of t w.v own w.n) next wait b ≡ noted table w turn i (call_for here d l) own Going b
     unfolding goes_on noted
     going_noted own b h =
         ap (λ z. all_enter turn (raisers (operation_of t w.v 0 w.n) wait) z) (same_acts own b h)
