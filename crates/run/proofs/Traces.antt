@@ -1,11 +1,13 @@
 -- The trace that is handed out, from what the run left or from a refusal. Assumes nothing.
 use mathlib.Core.Path.{◌≡◌, refl, ◌∙◌, sym, ap}
-use mathlib.Core.List.{List, ◌++◌}
+use mathlib.Core.List.{List, ◌++◌, append-nil}
 use Prim.Native.Nat.{ℕ, ◌+◌, ◌-◌, ◌<◌, ◌≤◌}
 use native.Mathlib.Omega.{arith}
 use borrow.Author.Tests.{eq-eqb, ne_eqb, lt-ltb, le-ltb}
-use lib.ListN.{length, get_or, take, drop, replicate, length-replicate, get_or-replicate}
+use lib.ListN.{length, get_or, take, drop, length-drop, replicate, length-replicate, get_or-replicate}
+use Rattle.std.proofs.lemmas.List.{drop_all}
 use lib.Seq.{ext_get_or, length-take-le, take-take, take-add}
+use borrow.Rule.Slice.PartMut.{put_mid}
 use Rattle.std.specs.Prelude.{Result, Ok, Err}
 use Rattle.rules.specs.declared.Reason.{Reason}
 use Rattle.rules.specs.Reason.{number_of, k_of}
@@ -18,7 +20,7 @@ use Rattle.run.specs.declared.Trace.{Trace}
 use Rattle.run.specs.declared.Drove.{Drove}
 use Rattle.run.specs.Row.{size_of, start_of, row_places, zero_row, part_of, book_in, RowFits}
 use Rattle.run.specs.Drive.{run_of_file}
-use Rattle.run.specs.Trace.{cleared, row_of, TraceNumbers, no_trace, given_trace, trace_numbers, trace_by, trace_of, TracedTo, RanTo}
+use Rattle.run.specs.Trace.{row_of, TraceNumbers, no_trace, given_trace, trace_numbers, trace_by, trace_of, TracedTo, RanTo}
 use Rattle.run.proofs.Written.{long}
 use Rattle.run.proofs.Points.{few_listed}
 use Rattle.run.proofs.Loop.{state}
@@ -37,7 +39,7 @@ drawn d calls turns =
       seq = d.bench.v.first;
     }
 
--- a row that is cleared after its list is its book's
+-- a row with zeros after its list is its book's
 module _ (row : List ℕ) (s : Tally) (f : RowFits row s) where
   pub how_many_listed : length (book_in row s).list ≡ s.listed
   unfolding size_of
@@ -53,10 +55,11 @@ module _ (row : List ℕ) (s : Tally) (f : RowFits row s) where
   unfolding start_of size_of part_of
   in_list = sym (take-take s.listed 1025 (drop 4100 row) (few_listed f))
 
-  pub as_row : cleared row (4100 + s.listed) ≡ row_of (book_in row s)
+  pub as_row : (zeros : List ℕ) → zeros ≡ replicate (length row - (4100 + s.listed)) 0 → put_mid (4100 + s.listed) (length row - (4100 + s.listed)) row zeros ≡ row_of (book_in row s)
   unfolding row_of start_of size_of
-  as_row =
-      rw (f.places, how_many_listed)
+  as_row zeros e =
+      let at = 4100 + s.listed in
+      rw (drop_all (length row - at) (drop at row) (omega (arith, length-drop at row)), e, append-nil (replicate {A = ℕ} (length row - (4100 + s.listed)) 0), f.places, how_many_listed)
       (ap (λ l. l ++ replicate (6249 - (4100 + s.listed)) 0) (take-add 4100 s.listed row ∙ ap (λ l. l ++ take s.listed (drop 4100 row)) in_front
       ∙ ap (λ l. part_of row 0 ++ part_of row 1 ++ part_of row 2 ++ part_of row 3 ++ l) in_list))
 
@@ -75,11 +78,12 @@ module _ (file row : List ℕ) (d : Drove) (f : RowFits row d.tally) (ran : stat
         seq = (ran i).bench.v.first;
       }
 
-  pub whole : (row' : List ℕ) (calls turns : ℕ) → calls ≡ (read_of file).q → turns ≡ length (turns_of file) → row' ≡ cleared row (4100 + d.tally.listed)
-      → RanTo file (drawn d calls turns) row'
-  whole row' calls turns h e left = record {
+  -- with zeros after the list
+  pub whole : (zeros : List ℕ) (calls turns : ℕ) → calls ≡ (read_of file).q → turns ≡ length (turns_of file) → zeros ≡ replicate (length row - (4100 + d.tally.listed)) 0
+      → RanTo file (drawn d calls turns) (put_mid (4100 + d.tally.listed) (length row - (4100 + d.tally.listed)) row zeros)
+  whole zeros calls turns h e cleared = record {
     answered = numbers calls turns h e;
-    left = left ∙ as_row row d.tally f ∙ ap (λ r. row_of r.book) ran;
+    left = as_row row d.tally f zeros cleared ∙ ap (λ r. row_of r.book) ran;
   }
 
 -- the number of turns that was read

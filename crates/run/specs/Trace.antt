@@ -1,5 +1,5 @@
 -- The trace of a run, as the rooms above have it: the run's numbers, and its book in a row that the caller lends. Assumes nothing.
-use Rattle.std.specs.Prelude.{◌≡◌, cond, List, ◌++◌, ℕ, ◌+◌, ◌-◌, eqb, ltb, length, replicate, take, drop, Result, Ok, Err}
+use Rattle.std.specs.Prelude.{◌≡◌, cond, List, ◌++◌, ℕ, ◌+◌, ◌-◌, eqb, ltb, length, replicate, drop, Result, Ok, Err}
 use Rattle.rules.specs.declared.Reason.{Reason}
 use Rattle.rules.specs.Reason.{number_of, k_of}
 use Rattle.runfile.specs.Reading.{read_of}
@@ -9,10 +9,6 @@ use Rattle.run.specs.Book.{Book}
 use Rattle.run.specs.Row.{list_part, start_of, row_places, book_in}
 use Rattle.run.specs.Run.{Run}
 use Rattle.run.specs.Drive.{run_of_file}
-
--- a row with zeros from a place on
-abbrev pub cleared : List ℕ → ℕ → List ℕ
-cleared row from = take from row ++ replicate (length row - from) 0
 
 -- a book as a row: own turns, answers, last turns and points by call, the list, and zeros after it, in the loop's own parts too
 unfoldable pub row_of : Book → List ℕ

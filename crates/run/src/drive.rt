@@ -1,55 +1,42 @@
-// The run loop: it keeps its own bench in place, takes what a turn reaches, moves it and puts it back, and keeps the book.
-// It assumes a sound bench, good turns and good calls, and keeps the bench sound, so that no turn tests it.
+// The run loop: it keeps its own bench in place, turns it, and keeps the book.
+// It assumes good turns and good calls. Its bench is sound by its type, so that no turn tests it.
 // A station's record is read for the idle test and again after it, so that an idle turn loads no more of it than the place.
-ghost use Rattle.std.specs.Prelude.{◌≡◌};
 ghost use Rattle.run.specs.Drive.{Drivable, Driven};
 
 use crate::calls::{errand, offered, operation, waiting};
 use crate::parts::{HEAD, LATEST, WAIT};
 use crate::{Drove, Finish, Ledger};
-use bench::Bench;
+use bench::SoundBench;
 use method::Answer;
-use reach::{Reach, reaches};
 
-pub(crate) fn drive(mut w: Bench, table: &[u8], turns: &[u8], row: &mut [u32]) -> Drove
-    requires { Drivable w table.now turns.now row.old }
-    ensures { Driven w table.now turns.now row.old result row.new }
+pub(crate) fn drive(mut w: SoundBench, table: &[u8], turns: &[u8], row: &mut [u32]) -> Drove
+    requires { Drivable w.bench table.now turns.now row.old }
+    ensures { Driven w.bench table.now turns.now row.old result row.new }
 {
-    let n = w.n;
     let mut book = Ledger::new(row);
     for (k, b) in turns.iter().enumerate() {
         let i = u32::from(*b);
         let at = i as usize;
-        let Some(e) = errand(w.stations[at], k as u32 + 1, i, book.row[HEAD + at], book.row[LATEST + at]) else {
+        let turn = k as u32 + 1;
+        let Some(e) = errand(w.bench.stations[at], turn, i, book.row[HEAD + at], book.row[LATEST + at]) else {
             book.idled();
             continue;
         };
-        let t = w.stations[at];
-        let offer = offered(table, e);
-        let to = reaches(t, i) as usize;
-        let g = Reach {
-            id: i,
-            v: w.v,
-            p: w.p,
-            a: w.a[to],
-            r: w.r[to],
-            station: t,
-        };
-        let m = g.moved(offer.kind, offer.a, offer.b);
-        w.v = m.reach.v;
-        w.p = m.reach.p;
-        w.a[to] = m.reach.a;
-        w.r[to] = m.reach.r;
-        w.stations[at] = m.reach.station;
-        let waits = waiting(m.reach.station);
-        let Answer::Ended { result, own } = m.answer else {
-            let o = operation(t, g.v, m.reach.station.own, n);
-            book.not_ended(m.answer, e, o);
-            book.row[WAIT + at] = waits;
+        let before = w.bench.stations[at];
+        let v = w.bench.v;
+        let x = w.turn(i, offered(table, e));
+        let after = w.bench.stations[at];
+        let Answer::Ended { result, own } = x else {
+            let o = operation(before, v, after.own, w.bench.n);
+            book.not_ended(x, e, o);
+            book.row[WAIT + at] = waiting(after);
             continue;
         };
         book.finished(e, Finish { result, own });
-        book.row[WAIT + at] = waits;
+        book.row[WAIT + at] = waiting(after);
     }
-    Drove { bench: w, tally: book.tally }
+    Drove {
+        bench: w.bench,
+        tally: book.tally,
+    }
 }

@@ -9,7 +9,7 @@ use crate::Trace;
 use crate::calls::link;
 use crate::drive::drive;
 use crate::parts::LIST;
-use bench::Bench;
+use bench::{Bench, SoundBench};
 use runfile::{Contents, part};
 
 pub(crate) fn ran(file: &[u8], row: &mut [u32], has: Contents) -> Trace
@@ -20,7 +20,8 @@ pub(crate) fn ran(file: &[u8], row: &mut [u32], has: Contents) -> Trace
     let table = part(file, 0, calls);
     let turns = part(file, calls, has.t);
     link(table, row);
-    let d = drive(Bench::fresh(has.x, has.n).bench, table, turns, row);
+    let bench = Bench::fresh(has.x, has.n).bench;
+    let d = drive(SoundBench { bench }, table, turns, row);
     row[LIST + d.tally.listed as usize..].fill(0);
     Trace {
         calls: has.q,
