@@ -127,16 +127,10 @@ impl Bench {
             && station_ok(self.stations[at], self.n, i)
     }
 
-    #[tactic(auto, unfolding(crate::specs::Sound::each_entry))]
     fn entries_ok(&self) -> bool
         ensures { result ≡ each_entry count_limit self.now 33 }
     {
-        for i in 0..33 {
-            if !self.entry_ok(i) {
-                return false;
-            }
-        }
-        true
+        (0..33).all(|i| self.entry_ok(i))
     }
 
     // Whether this is a sound bench.
