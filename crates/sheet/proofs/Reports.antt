@@ -1,11 +1,11 @@
 -- What the report answers and leaves in the buffer, from the trace of the run. Assumes nothing.
 use mathlib.Core.Path.{◌≡◌, refl, ◌∙◌, sym, ap}
-use mathlib.Core.Bool.{Bool, true, false}
-use mathlib.Core.List.{List, ◌++◌}
-use Prim.Native.Nat.{ℕ, ◌*◌, ◌<◌, ◌≤◌}
+use mathlib.Core.Bool.{true, false}
+use mathlib.Core.List.{List}
+use Prim.Native.Nat.{ℕ, ◌*◌, ◌≤◌}
 use native.Mathlib.Omega.{arith}
 use borrow.Author.Tests.{eq-eqb, eqb-true, leb-true, leb-false, lt-ltb, le-ltb}
-use lib.Dec.{leb, ltb, eqb}
+use lib.Dec.{leb, eqb}
 use lib.ListN.{length, drop}
 use Rattle.octets.specs.Bytes.{AllBytes}
 use Rattle.rules.proofs.Facts.{either_way}
@@ -19,7 +19,6 @@ use Rattle.run.specs.Drive.{run_of_file}
 use Rattle.run.specs.Row.{row_places}
 use Rattle.run.specs.Trace.{TraceNumbers, given_trace, trace_by, trace_of, TracedTo, book_of}
 use Rattle.run.proofs.Back.{file_long}
-use Rattle.rules.specs.Reason.{Numbers}
 use Rattle.limits.specs.Small.{SmallNumbers}
 use Rattle.limits.proofs.Promised.{small_numbers}
 use Rattle.lines.specs.Lines.{sheet_text}
