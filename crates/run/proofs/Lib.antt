@@ -1,7 +1,7 @@
 pub mod Written
 pub mod Points
 pub mod Books
-pub mod Clears
+pub mod Ledgers
 pub mod Links
 pub mod Steps
 pub mod After

@@ -137,9 +137,3 @@ module _ (table row : List ℕ) (c : ℕ) (p : 0 < c) (h : c ≤ records table) 
         zeros = still_zero;
         linked = rw (two, is_head) (link_down table (part_of row 8) (part_of row 7) c p h (omega (arith, l)) (long row 7 k.places (omega arith)) o k.linked);
       }
-
--- where there is no call, or the station is in one, none is on offer
-pub none_on_offer : (table : List ℕ) (rests : Bool) (c : ℕ) → (rests && not (eqb c 0)) ≡ false → offer table (cond rests c 0) ≡ call 3 0 0
-unfolding call_of
-none_on_offer table false c e = refl
-none_on_offer table true c e = rw (eqb-true c 0 (not-false (eqb c 0) e))

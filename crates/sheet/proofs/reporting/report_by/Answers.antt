@@ -1,25 +1,30 @@
 -- The row that is lent is long enough, so the trace is the file's refusal or its run.
-use mathlib.Core.Path.{◌∙◌}
 use native.Mathlib.Omega.{arith}
-use Rattle.sheet.proofs.Reports.{refused, within, the_table, at_most, the_report}
+use Rattle.rules.proofs.Reasons.{above}
+use Rattle.std.proofs.lemmas.Result.{err_from_is_err_and}
+use Rattle.sheet.proofs.Reports.{refused, within, at_most, too_long, in_place}
 use Rattle.sheet.proofs.reporting.report_by.Goals as goal
 
-pub returns-then-t-ne0 : goal.returns-then-t-ne0
-returns-then-t-ne0 c = refused c.args.file.now c.args.out.now c.args.row.now _ _ c.requires c.traced-t.ensures c.if-t-ne0.true
+pub returns-in_err-t : goal.returns-in_err-t
+returns-in_err-t c =
+    let a = c.args in
+    let p = err_from_is_err_and c.from_residual.result c.from_residual.ensures.1 in
+    rw (p.1, p.2) (refused a.file.now a.out.now a.row.now _ _ c.requires c.in_err-t.ensures (above c.in_err-t.field-0.0))
 
 pub overflow_mul-t : goal.overflow_mul-t
-overflow_mul-t c =
-    let a = c.args in
-    omega (arith, within a.file.now a.out.now a.row.now _ _ c.requires c.traced-t.ensures c.if-t-ne0.false)
+overflow_mul-t c = let a = c.args in record { fits = omega (arith, within a.file.now a.row.now _ _ c.requires c.in_ok-t.ensures) }
 
-pub laid-requires : goal.laid-requires
-laid-requires c =
+pub has_room-requires : goal.has_room-requires
+has_room-requires c =
     let a = c.args in
-    let table = c.part-table.ensures ∙ the_table a.file.now a.out.now a.row.now _ _ c.requires c.traced-t.ensures c.if-t-ne0.false in
-    at_most a.file.now a.out.now a.row.now _ _ c.requires c.traced-t.ensures c.if-t-ne0.false (λ i. (c.type_inv.file i).fits) _ table
+    at_most a.file.now a.row.now _ _ c.requires c.in_ok-t.ensures (λ i. (c.type_inv.file i).fits) _ c.part-table.ensures
+
+pub returns-then-not-has_room : goal.returns-then-not-has_room
+returns-then-not-has_room c =
+    let a = c.args in
+    too_long a.file.now a.row.now _ _ c.requires c.in_ok-t.ensures (λ i. (c.type_inv.file i).fits) _ c.part-table.ensures a.out.now c.if-not-has_room.ensures
 
 pub returns : goal.returns
 returns c =
     let a = c.args in
-    let table = c.part-table.ensures ∙ the_table a.file.now a.out.now a.row.now _ _ c.requires c.traced-t.ensures c.if-t-ne0.false in
-    the_report a.file.now a.out.now a.row.now _ _ c.requires c.traced-t.ensures c.if-t-ne0.false (λ i. (c.type_inv.file i).fits) _ table c.laid.ensures
+    in_place a.file.now a.row.now _ _ c.requires c.in_ok-t.ensures (λ i. (c.type_inv.file i).fits) _ c.part-table.ensures a.out.now c.if-not-has_room.ensures c.put_sheet.ensures
