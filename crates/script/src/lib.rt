@@ -10,9 +10,6 @@ ghost use Rattle.script.specs.Kind.{kind_word};
 ghost use Rattle.script.specs.Output.{refused_text, OutputSettled, OutputWhole};
 ghost use Rattle.script.specs.Promise.{WritersSettled};
 
-// The place past which none is counted.
-const LAST_PLACE: usize = 18446744073709551615;
-
 // A lent buffer and the place where the next byte goes.
 #[derive(Drop)]
 pub struct Page<'a> {
@@ -38,9 +35,7 @@ impl<'a> Page<'a> {
         if self.at < self.out.len() {
             self.out[self.at] = b;
         }
-        if self.at < LAST_PLACE {
-            self.at += 1;
-        }
+        self.at = self.at.saturating_add(1);
     }
 
     // The bytes of text.
