@@ -1,6 +1,6 @@
 // Text appended to a page, which is a lent buffer with a place in it: a byte, a word, a decimal number, the word for a call's kind,
 // the line of a refusal. What has no place in the buffer is not written, but the page's place counts it, so a text is measured by
-// writing it to a buffer of one byte.
+// writing it to a buffer of one byte. Its module number: a number read from a text, a digit at a time.
 #![tactic(auto)]
 
 ghost use Rattle.std.specs.Prelude.{◌≡◌, [], ◌∷◌, ◌≤◌};
@@ -9,6 +9,10 @@ ghost use Rattle.script.specs.Decimal.{decimal};
 ghost use Rattle.script.specs.Kind.{kind_word};
 ghost use Rattle.script.specs.Output.{refused_text, OutputSettled, OutputWhole};
 ghost use Rattle.script.specs.Promise.{WritersSettled};
+
+mod number;
+
+pub use number::number_more;
 
 // A lent buffer and the place where the next byte goes.
 #[derive(Drop)]
