@@ -1,17 +1,18 @@
--- Decimal numbers: their digits, how many they are, and the scratch row that holds them turned round. Assumes nothing.
+-- Decimal numbers: their digits, how many they are, and the scratch row that holds them. Assumes nothing.
 use mathlib.Core.Path.{◌≡◌, refl, ◌∙◌, sym, ap}
 use mathlib.Core.Bool.{cond}
-use mathlib.Core.List.{List, [], ◌∷◌, ◌++◌, append_assoc}
+use mathlib.Core.List.{List, [], ◌∷◌, ◌++◌, append_assoc, append-nil}
 use Prim.Native.Nat.{ℕ, zero, suc, ◌+◌, ◌-◌, ◌/◌, ◌%◌, ◌^◌, ◌<◌, ◌≤◌}
 use native.Mathlib.Omega.{arith}
 use native.Mathlib.Nat.{pow-suc}
-use native.Mathlib.Numerals.{add-one, sub-one}
+use native.Mathlib.Numerals.{sub-one}
 use borrow.Author.Tests.{ltb-true, ltb-false, lt-ltb, le-ltb}
 use lib.Dec.{ltb}
-use lib.ListN.{length, get_or, set, length-append}
-use lib.Seq.{get_or-set_same, get_or-set_other}
+use lib.ListN.{length, set, take, drop, length-append, length-set, length-drop}
+use lib.Seq.{take_all}
+use Rattle.std.proofs.lemmas.List.{drop-set, drop_all}
 use Rattle.rules.proofs.Facts.{either_way}
-use Rattle.script.specs.Decimal.{digit, digits_in, decimal, back}
+use Rattle.script.specs.Decimal.{digit, digits_in, decimal}
 
 -- more room to count in changes nothing
 enough : (k j n : ℕ) → n ≤ k → n ≤ j → digits_in k n ≡ digits_in j n
@@ -68,43 +69,42 @@ length-decimal =
 pub length-decimal-32 : (n : ℕ) → n < 2 ^ 32 → length (decimal n) ≤ 10
 length-decimal-32 n h = length-decimal n 10 (omega arith) (omega arith)
 
--- a store above leaves what stands below
-back_set : (row : List ℕ) (i j d : ℕ) → i ≤ j → back (set row j d) i ≡ back row i
-unfolding back
-back_set row zero j d h = refl
-back_set row (suc i) j d h = rw (get_or-set_other row j i d 0 (λ e. omega arith), back_set row i j d (omega arith))
+-- what the writer of a decimal keeps: the digits of n, and then the scratch row's from first + 1 on, are those of x
+pub record Filled (x n first : ℕ) (digits : List ℕ) : Type 0 where
+  pub ten : length digits ≡ 10
+  pub few : n < 10 ^ (first + 1)
+  pub last : first ≤ 9
+  pub told : decimal x ≡ decimal n ++ drop (first + 1) digits
 
-back_more : (row : List ℕ) (i d : ℕ) → i < length row → back (set row i d) (i + 1) ≡ d ∷ back row i
-unfolding back
-back_more row i d h = rw (add-one, get_or-set_same row i d 0 h, back_set row i i d (omega arith))
+pub filled_none : (x : ℕ) (digits : List ℕ) → x < 2 ^ 32 → length digits ≡ 10 → Filled x x 9 digits
+filled_none x digits h e =
+    record { ten = e; few = omega arith; last = omega arith; told = sym (ap (λ l. decimal x ++ l) (drop_all 10 digits (omega arith)) ∙ append-nil (decimal x)) }
 
-pub length_back : (row : List ℕ) (i : ℕ) → length (back row i) ≡ i
-unfolding back
-length_back row zero = refl
-length_back row (suc i) = ap suc (length_back row i)
+module _ {x n first : ℕ} {digits : List ℕ} (f : Filled x n first digits) where
+  -- there is room for another digit
+  pub room : 10 ≤ n → 1 ≤ first
+  room g = omega (arith, (shrink (first + 1) n f.few g).1)
 
-pub back_at : (row : List ℕ) (i j : ℕ) → j < i → get_or (back row i) j 0 ≡ get_or row (i - 1 - j) 0
-unfolding back
-back_at row zero j h = absurd (omega arith)
-back_at row (suc i) zero h = let e : suc i - 1 - 0 ≡ i = omega arith in rw e
-back_at row (suc i) (suc j) h = let e : suc i - 1 - suc j ≡ i - 1 - j = omega arith in rw e (back_at row i j (omega arith))
+  pub filled_more : 10 ≤ n → Filled x (n / 10) (first - 1) (set digits first (digit (n % 10)))
+  filled_more g =
+      let r = room g in
+      let e : first - 1 + 1 ≡ first = omega arith in
+      let d = n % 10 in
+      let h : first < length digits = omega (arith, f.ten, f.last) in
+      let k : first + 1 - 1 ≡ first = omega arith in
+      record {
+        ten = simp length-set f.ten;
+        few = rw (e, sym k) (shrink (first + 1) n f.few g).0;
+        last = omega (arith, f.last);
+        told = f.told ∙ ap (λ l. l ++ drop (first + 1) digits) (last_digit n g)
+            ∙ append_assoc (decimal (n / 10)) (digit d ∷ []) (drop (first + 1) digits)
+            ∙ ap (λ l. decimal (n / 10) ++ l) (sym (drop-set digits first (digit d) h) ∙ ap (λ i. drop i (set digits first (digit d))) (sym e));
+      }
 
-module _ (row : List ℕ) (i n : ℕ) (h : i < length row) where
-  pub next_digit : 10 ≤ n → decimal n ++ back row i ≡ decimal (n / 10) ++ back (set row i (digit (n % 10))) (i + 1)
-  next_digit g =
-      ap (λ l. l ++ back row i) (last_digit n g)
-      ∙ append_assoc (decimal (n / 10)) (digit (n % 10) ∷ []) (back row i)
-      ∙ ap (λ l. decimal (n / 10) ++ l) (sym (back_more row i (digit (n % 10)) h))
-
-  pub first_digit : n < 10 → back (set row i (digit n)) (i + 1) ≡ decimal n ++ back row i
-  first_digit g = back_more row i (digit n) h ∙ ap (λ l. l ++ back row i) (sym (one_digit n g))
-
--- in a row of ten: there is room for another digit, and one fewer is left
-module _ (n i : ℕ) (h : n < 10 ^ (10 - i)) (g : 10 ≤ n) where
-  pub room : i < 9
-  room = omega (arith, (shrink (10 - i) n h g).1)
-
-  pub fewer : n / 10 < 10 ^ (10 - (i + 1))
-  fewer =
-      let e : 10 - (i + 1) ≡ 10 - i - 1 = omega arith in
-      rw e (shrink (10 - i) n h g).0
+  -- the digits in the scratch row
+  pub filled_all : n < 10 → take (10 - first) (drop first (set digits first (digit n))) ≡ decimal x
+  filled_all g =
+      let row = set digits first (digit n) in
+      take_all (10 - first) (drop first row) (simp (length-drop, length-set) (omega (arith, f.ten)))
+      ∙ drop-set digits first (digit n) (omega (arith, f.ten, f.last))
+      ∙ ap (λ l. l ++ drop (first + 1) digits) (sym (one_digit n g)) ∙ sym f.told

@@ -1,12 +1,11 @@
 -- Writers one after the other on one page: their texts join. Assumes nothing.
-use mathlib.Core.Path.{◌≡◌, refl, ◌∙◌, ap}
+use mathlib.Core.Path.{refl, ◌∙◌}
 use mathlib.Core.List.{List, [], ◌∷◌, ◌++◌}
 use Prim.Native.Nat.{ℕ, ◌+◌, ◌<◌, ◌≤◌}
 use lib.ListN.{length, get_or, take}
-use Rattle.std.specs.Borrow.{MutBor}
 use Rattle.script.specs.declared.Page.{Page}
-use Rattle.script.specs.Wrote.{last_place, Wrote}
-use Rattle.script.specs.Page.{Opens, Writes}
+use Rattle.script.specs.Wrote.{last_place}
+use Rattle.script.specs.Page.{Writes}
 use Rattle.script.proofs.Writes.{still, and_then, one_more}
 
 -- nothing written

@@ -1,5 +1,5 @@
 -- Decimal numbers as text. Assumes nothing.
-use Rattle.std.specs.Prelude.{cond, List, [], ◌∷◌, ◌++◌, ℕ, zero, suc, ◌+◌, ◌/◌, ◌%◌, ltb, get_or}
+use Rattle.std.specs.Prelude.{cond, List, [], ◌∷◌, ◌++◌, ℕ, zero, suc, ◌+◌, ◌/◌, ◌%◌, ltb}
 
 -- the digit of a number below ten
 abbrev pub digit : ℕ → ℕ
@@ -13,8 +13,3 @@ digits_in (suc k) n = cond (ltb n 10) (digit n ∷ []) (digits_in k (n / 10) ++ 
 -- decimal without leading zeros
 unfoldable pub decimal : ℕ → List ℕ
 decimal n = digits_in n n
-
--- the first i of a row, last first
-unfoldable pub back : List ℕ → ℕ → List ℕ
-back row zero = []
-back row (suc i) = get_or row i 0 ∷ back row i

@@ -56,10 +56,11 @@ impl<'a> Page<'a> {
         let mut digits = [0u8; 10];
         let mut first: usize = 9;
         let mut n = x;
+        // counts down n itself, by its digits
         while 10 <= n {
             digits[first] = (48 + n % 10) as u8;
-            n = n / 10;
-            first = first - 1;
+            n /= 10;
+            first -= 1;
         }
         digits[first] = (48 + n) as u8;
         self.word(&digits[first..]);

@@ -1,4 +1,3 @@
-use borrow.Author.Rules.{rules}
 use Rattle.script.proofs.Pages.{byte_more}
 use Rattle.script.proofs.Page.word.Goals as goal
 
