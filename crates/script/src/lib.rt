@@ -10,6 +10,10 @@ ghost use Rattle.script.specs.Kind.{kind_word};
 ghost use Rattle.script.specs.Output.{refused_text, OutputSettled, OutputWhole};
 ghost use Rattle.script.specs.Promise.{WritersSettled};
 
+mod number;
+
+pub use number::number_more;
+
 // The place past which none is counted.
 const LAST_PLACE: usize = 18446744073709551615;
 
