@@ -1,5 +1,4 @@
-pub mod Numbers
-pub mod Codes
+pub mod Letters
 pub mod Scans
 pub mod Fills
 pub mod Records

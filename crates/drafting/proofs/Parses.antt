@@ -13,7 +13,7 @@ use Rattle.script.proofs.Writes.{same_length, size, in_front}
 use Rattle.rules.specs.Reason.{Numbers}
 use Rattle.runfile.specs.Writing.{Written}
 use Rattle.runfile.proofs.Writes.{clear_writes}
-use Rattle.drafting.specs.declared.Draft.{Draft}
+use Rattle.drafting.specs.Draft.{Drafted}
 use Rattle.drafting.specs.Scan.{no_scan, run}
 use Rattle.drafting.specs.Parse.{last_draft, lacking, table_in, turns_in, file_in, length_in, parsed, parse_of, parsed_on, ParsedTo}
 use Rattle.drafting.proofs.Writable.{written, no_room}
@@ -40,7 +40,7 @@ front_ends xs w h = let l = w.lent in omega (arith, size w (omega arith), same_l
 -- a text that can
 module _ (text out : List ℕ) (h : lacking (last_draft text) ≡ 0) (answer : Numbers) (after : List ℕ)
     (w : Written (last_draft text).x (last_draft text).n (table_in text) (turns_in text) out answer after) where
-  abbrev d : Draft
+  abbrev d : Drafted
   d = last_draft text
 
   pub taken : ParsedTo text out (parsed 0 answer.refused answer.len) after
@@ -59,7 +59,7 @@ module _ (text out : List ℕ) (h : lacking (last_draft text) ≡ 0) (answer : N
       record { answered = simp (n.0, e, f); left = simp (e, f) n.1 })
 
 -- the same from the rows that were lent
-pub taken_from : (text out table turns : List ℕ) (a b : ℕ) (d : Draft) → d ≡ last_draft text → lacking d ≡ 0
+pub taken_from : (text out table turns : List ℕ) (a b : ℕ) (d : Drafted) → d ≡ last_draft text → lacking d ≡ 0
     → take a table ≡ table_in text → take b turns ≡ turns_in text → (answer : Numbers) (after : List ℕ)
     → Written d.x d.n (take a table) (take b turns) out answer after
     → ParsedTo text out (parsed 0 answer.refused answer.len) after
