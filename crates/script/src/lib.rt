@@ -4,7 +4,7 @@
 #![tactic(auto)]
 
 ghost use Rattle.std.specs.Prelude.{◌≡◌, [], ◌∷◌, ◌≤◌};
-ghost use Rattle.script.specs.Page.{Opens, Writes};
+ghost use Rattle.script.specs.Wrote.{last_place};
 ghost use Rattle.script.specs.Decimal.{decimal};
 ghost use Rattle.script.specs.Kind.{kind_word};
 ghost use Rattle.script.specs.Output.{refused_text, OutputSettled, OutputWhole};
@@ -22,9 +22,12 @@ const LAST_PLACE: usize = 18446744073709551615;
 pub struct Page<'a> {
     pub out: &'a mut [u8],
     pub at: usize,
+    pub ghost in_place: { at ≤ last_place },
 }
 
 impl<'a> Page<'a> {
+    ghost use Rattle.script.specs.Page.{Opens, Writes};
+
     // A page with nothing written.
     pub fn new(out: &'a mut [u8]) -> Page<'a>
         ensures { Opens out.entry result }
