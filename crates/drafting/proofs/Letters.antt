@@ -1,14 +1,14 @@
 -- Words as bytes: whether they are the same, and the number that they spell. Assumes nothing.
 use mathlib.Core.Path.{◌≡◌, refl, ◌∙◌, sym, ap}
-use mathlib.Core.Bool.{true, false, ◌&&◌}
+use mathlib.Core.Bool.{false, ◌&&◌}
 use mathlib.Core.List.{List, [], ◌∷◌, ◌++◌}
-use Prim.Native.Nat.{ℕ, ◌+◌, ◌<◌, ◌≤◌}
+use Prim.Native.Nat.{ℕ, suc, ◌+◌, ◌-◌, ◌<◌, ◌≤◌}
 use native.Mathlib.Omega.{arith}
 use native.Mathlib.Numerals.{add-one}
 use lib.Dec.{eqb, ltb}
 use lib.Pointwise.{pointwise}
-use lib.ListN.{length, get_or, take, drop, length-drop, length-take, drop_of_length-le}
-use lib.Seq.{take-suc, drop-append-le}
+use lib.ListN.{length, get_or, take, drop, length-drop, length-take}
+use lib.Seq.{take-suc, get_or-drop}
 use Rattle.std.specs.Prelude.{Option, Some, None}
 use Rattle.rules.proofs.Facts.{either_way}
 use Rattle.script.specs.Number.{no_number, is_digit, digit_more, as_number, number_more}
@@ -52,13 +52,19 @@ unfolding empty
 there [] h = absurd (omega arith)
 there (b ∷ l) h = refl
 
-pub some_word : (text : List ℕ) (start i : ℕ) → start < i → i ≤ length text → empty (drop start (take i text)) ≡ false
-some_word text start i h g = there (drop start (take i text)) (simp (length-drop, length-take) (omega arith))
+pub some_word : (text : List ℕ) (start i : ℕ) → start < i → i ≤ length text → empty (take (i - start) (drop start text)) ≡ false
+some_word text start i h g = there (take (i - start) (drop start text)) (simp (length-take, length-drop) (omega arith))
 
 pub word_more : (text : List ℕ) (start i : ℕ) → start ≤ i → i < length text
-    → drop start (take (i + 1) text) ≡ drop start (take i text) ++ (get_or text i 0 ∷ [])
+    → take (i + 1 - start) (drop start text) ≡ take (i - start) (drop start text) ++ (get_or text i 0 ∷ [])
 word_more text start i h g =
-    rw (add-one, take-suc text i 0 g) (drop-append-le start (take i text) (get_or text i 0 ∷ []) (simp length-take (omega arith)))
+    let k : i + 1 - start ≡ suc (i - start) = omega arith in
+    let j : start + (i - start) ≡ i = omega arith in
+    ap (λ m. take m (drop start text)) k
+    ∙ take-suc (drop start text) (i - start) 0 (simp length-drop (omega arith))
+    ∙ ap (λ b. take (i - start) (drop start text) ++ (b ∷ [])) (get_or-drop start text (i - start) 0 ∙ ap (λ m. get_or text m 0) j)
 
-pub word_new : (text : List ℕ) (i : ℕ) → i < length text → drop i (take (i + 1) text) ≡ get_or text i 0 ∷ []
-word_new text i h = word_more text i i (omega arith) h ∙ rw (drop_of_length-le (take i text) {i = i} (simp length-take (omega arith))) refl
+pub word_new : (text : List ℕ) (i : ℕ) → i < length text → take (i + 1 - i) (drop i text) ≡ get_or text i 0 ∷ []
+word_new text i h =
+    let z : i - i ≡ 0 = omega arith in
+    word_more text i i (omega arith) h ∙ rw z refl

@@ -1,6 +1,6 @@
 -- How the code holds a draft and a scan, of which nothing is refused: the word so far is a part of the text. A refusal is told by
 -- the error that a step hands back. Assumes nothing.
-use Rattle.std.specs.Prelude.{◌≡◌, Bool, true, false, List, [], ◌∷◌, ◌++◌, ℕ, ◌+◌, ◌<◌, ⊤, Result, MatchResult, length, get_or, take, drop}
+use Rattle.std.specs.Prelude.{◌≡◌, Bool, true, false, List, [], ◌∷◌, ◌++◌, ℕ, ◌+◌, ◌-◌, ◌<◌, ⊤, Result, MatchResult, length, get_or, take, drop}
 use Rattle.drafting.specs.declared.Expected.{Expected}
 use Rattle.drafting.specs.declared.Draft.{Draft}
 use Rattle.drafting.specs.declared.Within.{Within}
@@ -22,7 +22,7 @@ in_comment (Word start) = false
 abbrev pub word_in : List ℕ → ℕ → Within → List ℕ
 word_in text i Blank = []
 word_in text i Comment = []
-word_in text i (Word start) = drop start (take i text)
+word_in text i (Word start) = take (i - start) (drop start text)
 
 abbrev pub scanned : List ℕ → ℕ → Scan → Scanned
 scanned text i s = scan s.line (in_comment s.within) (word_in text i s.within) (drafted s.draft)

@@ -9,7 +9,7 @@ ghost use Rattle.drafting.specs.Gather.{Filled, GatheredTo, Lasts, ToldTo};
 
 use crate::drafts::lacking_at;
 use crate::scanning::{fresh, line_ended, step};
-use crate::{Complaint, Draft, Expected, Rows, Scan};
+use crate::{Complaint, Draft, Expected, Scan};
 use runfile::CallRecord;
 use script::Page;
 
@@ -33,7 +33,7 @@ fn put_record(page: &mut Page, c: CallRecord)
     little::<4>(page, c.b);
 }
 
-#[tactic(auto, using(script::proofs::Pages::nothing), unfolding(crate::specs::Draft::call_from))]
+#[tactic(auto, unfolding(crate::specs::Draft::call_from))]
 fn put_call(page: &mut Page, q: usize, d: Draft)
     ensures { Writes page.old page.new (call_from q (drafted d)) }
 {
@@ -42,7 +42,7 @@ fn put_call(page: &mut Page, q: usize, d: Draft)
     }
 }
 
-#[tactic(auto, using(script::proofs::Pages::nothing), unfolding(crate::specs::Draft::turn_from))]
+#[tactic(auto, unfolding(crate::specs::Draft::turn_from))]
 fn put_turn(page: &mut Page, t: usize, d: Draft)
     ensures { Writes page.old page.new (turn_from t (drafted d)) }
 {
@@ -51,26 +51,32 @@ fn put_turn(page: &mut Page, t: usize, d: Draft)
     }
 }
 
-impl Rows<'_> {
-    // What a draft has more than the one before it.
-    fn put(&mut self, before: Draft, d: Draft)
-        ensures { Filled self.old self.new (call_made (drafted before) (drafted d)) (turn_made (drafted before) (drafted d)) }
-    {
-        put_call(&mut self.calls, before.q, d);
-        put_turn(&mut self.turns, before.t, d);
-    }
+// What a draft has more than the one before it.
+fn put_more(calls: &mut Page, moves: &mut Page, before: Draft, d: Draft)
+    ensures { Filled calls.old calls.new (call_made (drafted before) (drafted d)) moves.old moves.new (turn_made (drafted before) (drafted d)) }
+{
+    put_call(calls, before.q, d);
+    put_turn(moves, before.t, d);
 }
 
 // The text to its end.
-fn gathered(text: &[u8], rows: &mut Rows) -> Result<Scan, Complaint>
-    ensures { GatheredTo text.now rows.old rows.new result }
+fn gathered(text: &[u8], calls: &mut Page, moves: &mut Page) -> Result<Scan, Complaint>
+    ensures { GatheredTo text.now calls.old calls.new moves.old moves.new result }
 {
     let mut s = fresh();
     for i in 0..text.len() {
-        let line = s.line;
-        let next = step(text, s, i).map_err(|expected| Complaint { line, expected })?;
-        rows.put(s.draft, next.draft);
-        s = next;
+        match step(text, s, i) {
+            Ok(next) => {
+                put_more(calls, moves, s.draft, next.draft);
+                s = next;
+            }
+            Err(expected) => {
+                return Err(Complaint {
+                    line: s.line,
+                    expected,
+                });
+            }
+        }
     }
     Ok(s)
 }
@@ -85,13 +91,19 @@ fn at_end(text: &[u8], s: Scan) -> Result<Draft, Expected>
     Ok(d)
 }
 
-// What the text tells.
-pub(crate) fn told(text: &[u8], rows: &mut Rows) -> Result<Draft, Complaint>
-    ensures { ToldTo text.now rows.old rows.new result }
+// What the text tells, with its calls and its turns on two pages.
+pub(crate) fn told(text: &[u8], calls: &mut Page, moves: &mut Page) -> Result<Draft, Complaint>
+    ensures { ToldTo text.now calls.old calls.new moves.old moves.new result }
 {
-    let s = gathered(text, rows)?;
-    let line = s.line;
-    let d = at_end(text, s).map_err(|expected| Complaint { line, expected })?;
-    rows.put(s.draft, d);
-    Ok(d)
+    let s = gathered(text, calls, moves)?;
+    match at_end(text, s) {
+        Ok(d) => {
+            put_more(calls, moves, s.draft, d);
+            Ok(d)
+        }
+        Err(expected) => Err(Complaint {
+            line: s.line,
+            expected,
+        }),
+    }
 }

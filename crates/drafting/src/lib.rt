@@ -19,7 +19,6 @@ pub use promises::{
     texts_tell_good_runs,
 };
 use runfile::CallRecord;
-use script::Page;
 
 // What was expected of a text that cannot be read; Room is a longer buffer.
 #[derive(Clone, Copy, PartialEq, Eq)]
@@ -94,7 +93,7 @@ pub(crate) struct Draft {
 }
 
 // Between words, in a comment, or in the word that begins at a place of the text.
-#[derive(Clone, Copy, PartialEq, Eq)]
+#[derive(Clone, Copy)]
 pub(crate) enum Within {
     Blank,
     Comment,
@@ -107,11 +106,4 @@ pub(crate) struct Scan {
     pub line: usize,
     pub within: Within,
     pub draft: Draft,
-}
-
-// A page for the call table, and one for the turns.
-#[derive(Drop)]
-pub(crate) struct Rows<'a> {
-    pub calls: Page<'a>,
-    pub turns: Page<'a>,
 }

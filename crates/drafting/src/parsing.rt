@@ -2,7 +2,7 @@
 ghost use Rattle.drafting.specs.Parse.{parsed_numbers, ParsedTo};
 
 use crate::gathering::told;
-use crate::{Complaint, Expected, Rows};
+use crate::{Complaint, Expected};
 use script::Page;
 
 // The bytes of the largest call table, and the most turns.
@@ -16,15 +16,16 @@ pub fn parse(text: &[u8], out: &mut [u8]) -> Result<usize, Complaint>
 {
     let mut table = [0u8; TABLE];
     let mut turns = [0u8; TURNS];
-    let mut rows = Rows {
-        calls: Page::new(&mut table),
-        turns: Page::new(&mut turns),
-    };
-    let d = told(text, &mut rows)?;
-    let a = rows.calls.at;
-    let b = rows.turns.at;
-    runfile::write(d.x, d.n, &table[..a], &turns[..b], out).map_err(|_| Complaint {
-        line: 0,
-        expected: Expected::Room,
-    })
+    let mut calls = Page::new(&mut table);
+    let mut moves = Page::new(&mut turns);
+    let d = told(text, &mut calls, &mut moves)?;
+    let a = calls.at;
+    let b = moves.at;
+    match runfile::write(d.x, d.n, &table[..a], &turns[..b], out) {
+        Ok(len) => Ok(len),
+        Err(_) => Err(Complaint {
+            line: 0,
+            expected: Expected::Room,
+        }),
+    }
 }

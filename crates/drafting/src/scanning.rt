@@ -1,6 +1,6 @@
 // A text byte by byte: where its words and lines end.
 ghost use Rattle.std.specs.Prelude.{◌≡◌, ◌+◌, ◌<◌, ◌≤◌, List, ℕ, get_or, length};
-ghost use Rattle.drafting.specs.Held.{scanned, Begun, Between, Drafts, Letters, Scans};
+ghost use Rattle.drafting.specs.Held.{in_comment, scanned, Begun, Between, Drafts, Letters, Scans};
 ghost use Rattle.drafting.specs.Scan.{no_scan, word_ended, line_ended, is_blank, step};
 
 use crate::drafts::{ended, took};
@@ -9,7 +9,7 @@ use runfile::CallRecord;
 
 // Before the first byte.
 pub(crate) fn fresh() -> Scan
-    ensures { (text : List ℕ) → scanned text 0 result ≡ no_scan }
+    ensures { (text : List ℕ) → (scanned text 0 result ≡ no_scan) × Begun 0 result.within }
 {
     Scan {
         line: 1,
@@ -62,6 +62,12 @@ fn between(text: &[u8], s: Scan, i: usize, within: Within) -> Result<Scan, Expec
     Ok(Scan { within, draft, ..s })
 }
 
+fn in_comment(within: Within) -> bool
+    ensures { result ≡ in_comment within }
+{
+    matches!(within, Within::Comment)
+}
+
 // A byte of a word, its first or one more.
 #[tactic(auto, using(crate::proofs::Letters::word_more, crate::proofs::Letters::word_new))]
 fn in_word(s: Scan, i: usize) -> Scan
@@ -91,7 +97,7 @@ pub(crate) fn step(text: &[u8], s: Scan, i: usize) -> Result<Scan, Expected>
             draft,
         });
     }
-    if s.within == Within::Comment {
+    if in_comment(s.within) {
         return Ok(s);
     }
     if text[i] == b'#' {
