@@ -30,7 +30,8 @@ impl<'a> Ledger<'a> {
             return;
         }
         let at = POINT + c as usize;
-        if self.row[at] != 0 {
+        let has_point = self.row[at] != 0;
+        if has_point {
             return;
         }
         self.row[at] = turn;
