@@ -40,6 +40,7 @@ impl<'a> Ledger<'a> {
     }
 
     // Where place 19 raises V.seq to the saved version: the call of the saved pid's station, then those of the others that wait for that version, by station number.
+    #[tactic(auto, using(crate::proofs::Ledgers::none_yet))]
     fn raise(&mut self, saw: Claim, n: u32, turn: u32)
         requires { Fits self.old × ((n < by_station) × ((saw.pid < by_station) × (0 < turn))) }
         ensures { Changes self.old (all_enter turn (saw.pid ∷ waiters (wait_in self.old) saw.pid saw.seq n)) self.new }
@@ -68,6 +69,7 @@ impl<'a> Ledger<'a> {
     }
 
     // A turn with an operation that did not end its call.
+    #[tactic(auto, unfolding(crate::specs::Book::goes_on, crate::specs::Book::all_enter))]
     fn operated(&mut self, e: Errand, o: Operation)
         requires { Fits self.old × (HasPlaces e × ((self.old.tally.begun < 65536) × Within o)) }
         ensures { Changes self.old (goes_on e o (next_in self.old) (wait_in self.old)) self.new }
@@ -79,6 +81,7 @@ impl<'a> Ledger<'a> {
     }
 
     // A call that ends in its first turn has its point there.
+    #[tactic(auto, using(crate::proofs::Ledgers::still), unfolding(crate::specs::Book::all_enter))]
     fn at_once(&mut self, e: Errand)
         requires { Fits self.old × HasPlaces e }
         ensures { Changes self.old (all_enter e.turn (cond e.rests (e.station ∷ []) [])) self.new }
@@ -110,6 +113,7 @@ impl<'a> Ledger<'a> {
     }
 
     // A turn that did not end its call: idle, an operation after which the call goes on, or refused, which counts for nothing.
+    #[tactic(auto, using(crate::proofs::Ledgers::still), unfolding(crate::specs::Book::unended))]
     pub(crate) fn not_ended(&mut self, x: Answer, e: Errand, o: Operation)
         requires { Fits self.old × (HasPlaces e × ((self.old.tally.begun < 65536) × (Within o × (self.old.tally.idle < 65536)))) }
         ensures { Changes self.old (unended x e o (next_in self.old) (wait_in self.old)) self.new }

@@ -5,15 +5,6 @@ use Rattle.run.proofs.Ledgers.{none_yet, one_waits, one_less, winner_first}
 use Rattle.run.proofs.Ledger.raise.Goals.{then-j-saw, else-j-saw}
 use Rattle.run.proofs.Ledger.raise.Goals as goal
 
-pub loop-j-init : goal.loop-j-init
-loop-j-init c = (omega arith, none_yet c.enter.new.self c.args.saw c.args.turn c.enter.ensures.became.fits)
-
-pub bounds-self-j : goal.bounds-self-j
-bounds-self-j c = omega (arith, c.loop-j.invariant.1.became.fits.places, c.requires.1.0)
-
-pub enter-requires-then-j-saw : goal.enter-requires-then-j-saw
-enter-requires-then-j-saw c = (c.loop-j.invariant.1.became.fits, (omega (arith, c.requires.1.0), c.requires.1.1.1))
-
 pub loop-j-preserved : goal.loop-j-preserved
 loop-j-preserved c =
     let a = c.args in
