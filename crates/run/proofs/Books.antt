@@ -12,7 +12,7 @@ use Rattle.run.specs.declared.Errand.{Errand}
 use Rattle.run.specs.declared.Operation.{Operation}
 use Rattle.run.specs.Book.{Book, acts, enters, all_enter, call_ends, waiters, acts_for, goes_on, unended}
 use Rattle.run.specs.Row.{size_of, start_of, part_of, wrote, book_in, notes_by, on_book, point_count, RowFits, Becomes, HasPlaces}
-use Rattle.run.specs.Drive.{one_idle}
+use Rattle.run.specs.Drive.{no_tally}
 use Rattle.run.proofs.Written.{written, read}
 use Rattle.run.proofs.Points.{within_set}
 

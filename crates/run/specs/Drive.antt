@@ -15,10 +15,6 @@ use Rattle.run.specs.Run.{Run, run_from, run_of}
 abbrev pub no_tally : Tally
 no_tally = record { idle = 0; begun = 0; ended = 0; listed = 0 }
 
--- the counts with an idle turn more
-abbrev pub one_idle : Tally → Tally
-one_idle s = record { idle = s.idle + 1; begun = s.begun; ended = s.ended; listed = s.listed }
-
 -- every turn is of a station of the bench, and every call is a good offer
 pub record Good (n : ℕ) (table turns : List ℕ) : Type 0 where
   pub turn : (k : ℕ) → k < length turns → (1 ≤ get_or turns k 0) × (get_or turns k 0 ≤ n)

@@ -15,9 +15,6 @@ returns-in_err-contents c =
     let p = err_from_is_err_and c.from_residual.result c.from_residual.ensures.1 in
     rw (p.1, p.2) (refused c.args.file.now c.args.row.now c.in_err-contents.field-0.0 c.in_err-contents.ensures)
 
-pub returns-then-row-lt-PLACES : goal.returns-then-row-lt-PLACES
-returns-then-row-lt-PLACES c = too_short c.args.file.now c.args.row.now (sym (ap (λ r. r.refused) c.in_ok-contents.ensures)) c.if-row-lt-PLACES.true
-
 -- the front is filled with zeros
 pub ran-requires : goal.ran-requires
 unfolding zero_row
