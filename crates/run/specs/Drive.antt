@@ -1,5 +1,5 @@
 -- What the run loop assumes, and what it leaves: the run of the definitions, in a row. Assumes nothing.
-use Rattle.std.specs.Prelude.{◌≡◌, ◌⊎◌, false, List, ℕ, ◌+◌, ◌<◌, ◌≤◌, length, get_or, replicate}
+use Rattle.std.specs.Prelude.{◌≡◌, ◌⊎◌, false, List, ℕ, ◌<◌, ◌≤◌, length, get_or, replicate}
 use Rattle.rules.specs.Limits.{call_limit, turn_limit}
 use Rattle.runfile.specs.Layout.{records, call_of}
 use Rattle.runfile.specs.Reading.{read_of, table_of, turns_of}

@@ -21,16 +21,15 @@ bounds-w-at c = has_entry (goal.at.bounds-w-at c).After-from-i
 pub bounds-w-at-in-loop-k : goal.bounds-w-at-in-loop-k
 bounds-w-at-in-loop-k c = has_entry (goal.at.bounds-w-at-in-loop-k c).After-from-i
 
-pub bounds-w-at-in-loop-k-2 : goal.bounds-w-at-in-loop-k-2
-bounds-w-at-in-loop-k-2 c = has_entry (goal.at.bounds-w-at-in-loop-k-2 c).After-from-i
-
 -- an idle turn
 pub loop-k-preserved-in_default : goal.loop-k-preserved-in_default
 loop-k-preserved-in_default c =
     let k = c.loop-k.invariant in
-    let i = c.from-i.result in
-    (c.idled.ensures.same ∙ k.0, after_idle _ _ _ _ _ _ _ _ k.1 c.loop-k-test.true c.requires.good i c.from-i.ensures _ _
-    (is_idle _ _ _ _ _ _ _ _ k.1 c.loop-k-test.true c.requires.good i c.from-i.ensures _ c.errand.ensures c.in_default.is) c.idled.ensures.became)
+    let i = c.from-i.result in (
+      c.idled.ensures.same ∙ k.0,
+      after_idle _ _ _ _ _ _ _ _ k.1 c.loop-k-test.true c.requires.good i c.from-i.ensures _ _
+          (is_idle _ _ _ _ _ _ _ _ k.1 c.loop-k-test.true c.requires.good i c.from-i.ensures _ c.errand.ensures c.in_default.is) c.idled.ensures.became,
+    )
 
 -- the errand of any other is that of its station's place and calls
 the_errand : (c : In-Some) → let l = c.loop-k in
@@ -54,10 +53,12 @@ waiting-requires c = s_small c.turn-x.new.self.bench c.from-i.result c.turn-x.ne
 
 pub loop-k-preserved-in_default-x : goal.loop-k-preserved-in_default-x
 loop-k-preserved-in_default-x c =
-    let k = c.loop-k.invariant in
-    (c.not_ended.ensures.same ∙ k.0, after_going _ _ _ _ _ _ _ _ k.1 c.loop-k-test.true c.requires.good c.from-i.result c.from-i.ensures _
-    (the_errand (goal.at.loop-k-preserved-in_default-x c).In-Some)
-    _ _ _ c.offered.ensures c.turn-x.ensures _ _ _ _ c.in_default-x.not-Ended c.operation-o.ensures c.waiting.ensures c.not_ended.ensures.became)
+    let k = c.loop-k.invariant in (
+      c.not_ended.ensures.same ∙ k.0,
+      after_going _ _ _ _ _ _ _ _ k.1 c.loop-k-test.true c.requires.good c.from-i.result c.from-i.ensures _
+          (the_errand (goal.at.loop-k-preserved-in_default-x c).In-Some)
+          _ _ _ c.offered.ensures c.turn-x.ensures _ _ _ _ c.in_default-x.not-Ended c.operation-o.ensures c.waiting.ensures c.not_ended.ensures.became,
+    )
 
 -- and one that ended it
 pub finished-requires : goal.finished-requires
@@ -71,10 +72,12 @@ waiting-requires-in-loop-k c =
 
 pub loop-k-preserved : goal.loop-k-preserved
 loop-k-preserved c =
-    let k = c.loop-k.invariant in
-    (c.finished.ensures.same ∙ k.0, after_end _ _ _ _ _ _ _ _ k.1 c.loop-k-test.true c.requires.good c.from-i.result c.from-i.ensures _
-    (the_errand (goal.at.loop-k-preserved c).In-Some)
-    _ _ _ c.offered.ensures c.turn-x.ensures _ _ _ _ _ c.in-Ended.is c.waiting-in-loop-k.ensures c.finished.ensures.became)
+    let k = c.loop-k.invariant in (
+      c.finished.ensures.same ∙ k.0,
+      after_end _ _ _ _ _ _ _ _ k.1 c.loop-k-test.true c.requires.good c.from-i.result c.from-i.ensures _
+          (the_errand (goal.at.loop-k-preserved c).In-Some)
+          _ _ _ c.offered.ensures c.turn-x.ensures _ _ _ _ _ c.in-Ended.is c.waiting-in-loop-k.ensures c.finished.ensures.became,
+    )
 
 pub returns : goal.returns
 returns c =

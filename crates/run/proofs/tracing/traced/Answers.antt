@@ -1,13 +1,12 @@
 -- The run is made in the front of the row.
 use mathlib.Core.Path.{◌≡◌, ◌∙◌, sym, ap}
-use native.Mathlib.Omega.{arith}
 use Prim.Native.Nat.{ℕ, ◌<◌}
 use lib.ListN.{length, get_or}
 use lib.Seq.{length-take-le}
 use borrow.Author.Rules.{rules}
 use Rattle.std.proofs.lemmas.Result.{err_from_is_err_and}
 use Rattle.run.specs.Row.{row_places, zero_row}
-use Rattle.run.proofs.Traces.{all_zeros, refused, too_short, long_enough}
+use Rattle.run.proofs.Traces.{all_zeros, refused, long_enough}
 use Rattle.run.proofs.tracing.traced.Goals as goal
 
 pub returns-in_err-contents : goal.returns-in_err-contents
