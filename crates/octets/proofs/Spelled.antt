@@ -1,6 +1,5 @@
 -- The number that bytes spell: its two laws over the width, and a byte more from the right. Assumes nothing.
 use mathlib.Core.Path.{◌≡◌, refl, ◌∙◌, ap}
-use mathlib.Core.Logic.{◌⊎◌, ⊎_elim}
 use mathlib.Core.List.{List, [], ◌∷◌}
 use Prim.Native.Nat.{ℕ, zero, suc, ◌+◌, ◌*◌, ◌-◌, ◌/◌, ◌%◌, ◌^◌, ◌<◌, ◌≤◌}
 use native.Mathlib.Omega.{arith}
@@ -48,11 +47,9 @@ fits_in k s h l = lt_of_lt_of_le (fits s h) (pow-le-pow_right {n = 256} (omega a
 
 -- what the first k bytes spell from place i on: nothing past the end, and a byte more from the right
 module _ (k : ℕ) (s : List ℕ) where
-  pub none_left : (i : ℕ) → (k ≤ i) ⊎ (length s ≤ i) → spelled (drop i (take k s)) ≡ 0
+  pub none_left : (i : ℕ) → length (take k s) ≤ i → spelled (drop i (take k s)) ≡ 0
   unfolding spelled
-  none_left i h =
-      let l : length (take k s) ≤ i = simp length-take (⊎_elim (λ a. omega arith) (λ a. omega arith) h) in
-      rw (drop_of_length-le (take k s) l)
+  none_left i h = rw (drop_of_length-le (take k s) h)
 
   pub one_more : (i : ℕ) → 0 < i → i ≤ k → i ≤ length s
       → spelled (drop (i - 1) (take k s)) ≡ get_or s (i - 1) 0 + 256 * spelled (drop i (take k s))

@@ -10,11 +10,9 @@ pub fn store(out: &mut [u8], x: u64)
     ensures { out.new ≡ bytes (length out.old) x }
 {
     let mut y = x;
-    let mut i = 0;
-    while i < out.len() {
-        out[i] = (y % 256) as u8;
-        y = y / 256;
-        i = i + 1;
+    for b in out.iter_mut() {
+        *b = (y % 256) as u8;
+        y /= 256;
     }
 }
 
@@ -22,26 +20,22 @@ pub fn store(out: &mut [u8], x: u64)
 pub fn wide(b: u8) -> u32
     ensures { result ≡ b }
 {
-    b as u32
+    u32::from(b)
 }
 
 // The number that the part spells, lowest byte first. A part of over 8 bytes is read as far as its eighth.
 pub fn number(part: &[u8]) -> u64
     ensures { result ≡ spelled (take 8 part.now) }
 {
-    let mut x: u64 = 0;
-    let mut i: usize = 8;
-    if part.len() < 8 {
-        i = part.len();
-    }
-    while 0 < i {
-        i = i - 1;
-        x = wide(part[i]) as u64 + 256 * x;
+    let mut x = 0;
+    for i in (0..part.len().min(8)).rev() {
+        x = u64::from(part[i]) + 256 * x;
     }
     x
 }
 
 // Spelling and writing are each other's inverse, at every width.
+#[tactic(auto, using(crate::proofs::Spelled::inverse))]
 pub fn bytes_spell_numbers()
     ensures { Inverse }
 {}

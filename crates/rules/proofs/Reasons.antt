@@ -2,6 +2,7 @@
 use mathlib.Core.Path.{◌≡◌, refl, sym, ap, ◌∙◌}
 use Prim.Native.Nat.{ℕ}
 use native.Mathlib.Omega.{arith}
+use borrow.Author.Tests.{ne_eqb}
 use Rattle.std.specs.Prelude.{Result, Ok, Err, cond, eqb}
 use Rattle.rules.specs.Reason.{number_of, k_of, Numbers, numbers, NumbersTell}
 use Rattle.rules.specs.declared.Reason.{Reason}
@@ -35,46 +36,20 @@ had_back Count = refl
 had_back Version = refl
 had_back Room = refl
 
-refused_back : (e : Reason) → answer_with (numbers (Err e)) ≡ Err e
-unfolding answer_with
-refused_back FileLength = ap Err (had_back FileLength)
-refused_back Form = ap Err (had_back Form)
-refused_back Stations = ap Err (had_back Stations)
-refused_back Calls = ap Err (had_back Calls)
-refused_back Turns = ap Err (had_back Turns)
-refused_back Lengths = ap Err (had_back Lengths)
-refused_back (Call k) = ap Err (had_back (Call k))
-refused_back (Turn k) = ap Err (had_back (Turn k))
-refused_back Unsound = ap Err (had_back Unsound)
-refused_back Station = ap Err (had_back Station)
-refused_back Offer = ap Err (had_back Offer)
-refused_back Count = ap Err (had_back Count)
-refused_back Version = ap Err (had_back Version)
-refused_back Room = ap Err (had_back Room)
+-- no reason has number 0: what is had back from it is the last, of number 14
+pub above : (e : Reason) → number_of e ≡ 0 → ⊥
+unfolding reason_with
+above e h =
+    let last : e ≡ Room = sym (had_back e) ∙ ap (λ n. reason_with n (k_of e)) h in
+    omega (arith, ap number_of last)
 
 answer_back : (r : Result ℕ Reason) → answer_with (numbers r) ≡ r
-answer_back (Ok len) = unfold answer_with in refl
-answer_back (Err e) = refused_back e
-
--- no reason has number 0
-pub above : (e : Reason) → number_of e ≡ 0 → ⊥
-above FileLength h = omega arith
-above Form h = omega arith
-above Stations h = omega arith
-above Calls h = omega arith
-above Turns h = omega arith
-above Lengths h = omega arith
-above (Call k) h = omega arith
-above (Turn k) h = omega arith
-above Unsound h = omega arith
-above Station h = omega arith
-above Offer h = omega arith
-above Count h = omega arith
-above Version h = omega arith
-above Room h = omega arith
+unfolding answer_with
+answer_back (Ok len) = refl
+answer_back (Err e) = rw (ne_eqb (number_of e) 0 (above e)) (ap Err (had_back e))
 
 pub numbers_tell : NumbersTell
 numbers_tell = record {
-  reasons = λ d e n k. sym (had_back d) ∙ (ap (λ m. reason_with m (k_of d)) n ∙ (ap (reason_with (number_of e)) k ∙ had_back e));
-  answers = λ r s e. sym (answer_back r) ∙ (ap answer_with e ∙ answer_back s);
+  reasons = λ d e n k. sym (had_back d) ∙ rw (n, k) (had_back e);
+  answers = λ r s e. sym (answer_back r) ∙ rw e (answer_back s);
 }

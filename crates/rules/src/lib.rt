@@ -69,21 +69,25 @@ impl Reason {
 }
 
 // Of any table, the first in its order that holds is given, and no refusal where none holds.
+#[tactic(auto, using(crate::proofs::Exactly::exactly))]
 pub fn first_is_given()
     ensures { FirstIsGiven }
 {}
 
 // Where the table's numbers rise, that is the lowest number that holds.
+#[tactic(auto, using(crate::proofs::Exactly::lowest_given))]
 pub fn lowest_is_given()
     ensures { LowestIsGiven }
 {}
 
 // The same of a table with its K: each number comes with the K that its row names.
+#[tactic(auto, using(crate::proofs::Rows::exact_rows))]
 pub fn rows_are_exact()
     ensures { ExactRows }
 {}
 
 // An answer's numbers tell the answer: its reason, or its length.
+#[tactic(auto, using(crate::proofs::Reasons::numbers_tell))]
 pub fn numbers_tell_answers()
     ensures { NumbersTell }
 {}
