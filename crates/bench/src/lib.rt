@@ -3,7 +3,9 @@
 #![tactic(auto)]
 
 ghost use Rattle.std.specs.Prelude.{◌≡◌};
+ghost use Rattle.std.specs.Prelude.{true};
 ghost use Rattle.bench.specs.Record.{blank};
+ghost use Rattle.bench.specs.Sound.{sound};
 ghost use Rattle.bench.specs.Turn.{fresh_of};
 
 use card::{Claim, Halves};
@@ -22,6 +24,13 @@ pub struct Bench {
     pub a: [Halves; 33],
     pub r: [Halves; 33],
     pub stations: [Station; 33],
+}
+
+// A bench that is sound, so that no turn tests it.
+#[derive(Clone, Copy)]
+pub struct SoundBench {
+    pub bench: Bench,
+    pub ghost is_sound: { sound bench ≡ true },
 }
 
 // What a turn hands back.
