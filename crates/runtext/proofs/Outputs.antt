@@ -1,6 +1,6 @@
 -- What read_run writes of a file, from what printing answers. Assumes nothing.
 use mathlib.Core.Path.{◌≡◌, refl, ◌∙◌, sym, ap}
-use mathlib.Core.Bool.{true, false}
+use mathlib.Core.Bool.{false≢true}
 use mathlib.Core.List.{List}
 use Prim.Native.Nat.{ℕ, ◌≤◌, min}
 use native.Mathlib.Omega.{arith}
@@ -14,7 +14,9 @@ use Rattle.runfile.specs.Reading.{read_of}
 use Rattle.runfile.proofs.Bounds.{number_read, k_read}
 use Rattle.rules.specs.Reason.{Numbers}
 use Rattle.runtext.specs.Text.{file_text, printed, print_of, printed_on, PrintedTo}
-use Rattle.runtext.specs.Output.{PrintOutput, PrintOutputSettled, PrintOutputWhole}
+use Rattle.runtext.specs.declared.Outcome.{Outcome}
+use Rattle.runtext.specs.declared.Outcome.TheVariants.{Text, Refusal}
+use Rattle.runtext.specs.Output.{is_refusal, shown, PrintOutput, PrintOutputSettled, PrintOutputWhole}
 use Rattle.runtext.proofs.Prints.{length-file-text}
 
 module _ (file out after : List ℕ) (p : Numbers) (w : PrintedTo file out p after) where
@@ -31,7 +33,7 @@ module _ (file out after : List ℕ) (p : Numbers) (w : PrintedTo file out p aft
   k_fits = rw w.answered answered.few
 
   -- nothing refused: the text is there
-  pub text_there : p.refused ≡ 0 → PrintOutput file out (record { refused = false; len = p.len }) after
+  pub text_there : p.refused ≡ 0 → PrintOutput file out (Text p.len) after
   unfolding printed_on
   text_there z =
       let e : x.refused ≡ 0 = ap (λ (p : Numbers). p.refused) (sym w.answered) ∙ z in
@@ -39,17 +41,24 @@ module _ (file out after : List ℕ) (p : Numbers) (w : PrintedTo file out p aft
 
   -- refused: the line, as far as the buffer goes
   pub line_there : (p.refused ≡ 0 → ⊥) → {after' : List ℕ} {j : ℕ} → Wrote after after' 0 j (refused_text p.refused p.k) → (len : ℕ)
-      → len ≡ min j (length after) → PrintOutput file out (record { refused = true; len = len }) after'
+      → len ≡ min j (length after) → PrintOutput file out (Refusal len) after'
   unfolding printed_on
   line_there h v len m =
       let n : x.refused ≡ 0 → ⊥ = λ z. h (ap (λ (p : Numbers). p.refused) w.answered ∙ z) in
       record { refused = rw (ne_eqb x.refused 0 n) refl; output = Outputs.line_there answered w.left n (rw w.answered at v) len m }
 
+-- which it is and how many bytes are there tell the outcome
+same_outcome : (a b : Outcome) → is_refusal a ≡ is_refusal b → shown a ≡ shown b → a ≡ b
+same_outcome (Text i) (Text j) e h = ap Text h
+same_outcome (Text i) (Refusal j) e h = absurd (false≢true e)
+same_outcome (Refusal i) (Text j) e h = absurd (false≢true (sym e))
+same_outcome (Refusal i) (Refusal j) e h = ap Refusal h
+
 pub output_is_settled : PrintOutputSettled
 unfolding PrintOutputSettled OutputSettled
 output_is_settled file out a b c d v w =
-    let o = Outputs.outputs_are_settled _ out a.len b.len c d v.output w.output in
-    (rw (v.refused ∙ sym w.refused, o.0) refl, o.1)
+    let o = Outputs.outputs_are_settled _ out (shown a) (shown b) c d v.output w.output in
+    (same_outcome a b (v.refused ∙ sym w.refused) o.0, o.1)
 
 pub output_is_whole : PrintOutputWhole
 unfolding PrintOutputWhole print_of

@@ -11,17 +11,9 @@ pub use printing::print;
 pub use promises::{answer_is_settled, buffer_is_enough, output_is_settled, output_is_whole};
 pub use showing::output;
 
-// refused and k are the file's, or refused is 14; len is the number of bytes written, and 0 where refused is not.
-#[derive(Clone, Copy)]
-pub struct Printed {
-    pub refused: u32,
-    pub k: usize,
-    pub len: usize,
-}
-
-// What is written of a file: len bytes of a lent buffer, the text or, where refused is true, the line of the refusal.
-#[derive(Clone, Copy)]
-pub struct Outcome {
-    pub refused: bool,
-    pub len: usize,
+// What is written of a file: the text or the line of the refusal, with how many of its bytes stand at the front of a lent buffer.
+#[derive(Clone, Copy, PartialEq, Eq)]
+pub enum Outcome {
+    Text(usize),
+    Refusal(usize),
 }

@@ -3,24 +3,18 @@ ghost use Rattle.runtext.specs.Output.{PrintOutput};
 
 use crate::Outcome;
 use crate::printing::print;
+use script::Page;
 
 // Writes it to the front of the buffer, as far as that goes, and tells which it is and how many of its bytes are there.
 pub fn output(file: &[u8], out: &mut [u8]) -> Outcome
     ensures { PrintOutput file.now out.old result out.new }
 {
-    let r = print(file, out);
-    if r.refused == 0 {
-        return Outcome {
-            refused: false,
-            len: r.len,
-        };
+    match print(file, out) {
+        Ok(len) => Outcome::Text(len),
+        Err(reason) => {
+            let mut page = Page::new(out);
+            page.refused(reason.number(), reason.k() as u32);
+            Outcome::Refusal(page.at.min(page.out.len()))
+        }
     }
-    let len = script::refused(out, 0, r.refused, r.k as u32);
-    if out.len() < len {
-        return Outcome {
-            refused: true,
-            len: out.len(),
-        };
-    }
-    Outcome { refused: true, len }
 }

@@ -4,7 +4,7 @@
 #![tactic(auto)]
 
 ghost use Rattle.std.specs.Prelude.{◌≡◌, [], ◌∷◌, ◌≤◌};
-ghost use Rattle.script.specs.Page.{Opens, Writes};
+ghost use Rattle.script.specs.Wrote.{last_place};
 ghost use Rattle.script.specs.Decimal.{decimal};
 ghost use Rattle.script.specs.Kind.{kind_word};
 ghost use Rattle.script.specs.Output.{refused_text, OutputSettled, OutputWhole};
@@ -22,9 +22,12 @@ const LAST_PLACE: usize = 18446744073709551615;
 pub struct Page<'a> {
     pub out: &'a mut [u8],
     pub at: usize,
+    pub ghost in_place: { at ≤ last_place },
 }
 
 impl<'a> Page<'a> {
+    ghost use Rattle.script.specs.Page.{Opens, Writes};
+
     // A page with nothing written.
     pub fn new(out: &'a mut [u8]) -> Page<'a>
         ensures { Opens out.entry result }
@@ -71,6 +74,7 @@ impl<'a> Page<'a> {
     }
 
     // The word for a call's kind: 0 is read, 1 set, any other swap.
+    #[tactic(auto, unfolding(crate::specs::Kind::kind_word))]
     pub fn kind(&mut self, kind: u32)
         ensures { Writes self.old self.new (kind_word kind) }
     {
@@ -94,16 +98,19 @@ impl<'a> Page<'a> {
 }
 
 // The contract of a writer allows one buffer and one next place for each input.
+#[tactic(auto, using(crate::proofs::Writes::writers_are_settled))]
 pub fn writers_are_settled()
     ensures { WritersSettled }
 {}
 
 // The contract of a program's output allows one length and one buffer for each output.
+#[tactic(auto, using(crate::proofs::Outputs::outputs_are_settled))]
 pub fn outputs_are_settled()
     ensures { OutputSettled }
 {}
 
 // Where the buffer has room for it, its front is the output.
+#[tactic(auto, using(crate::proofs::Outputs::outputs_are_whole))]
 pub fn outputs_are_whole()
     ensures { OutputWhole }
 {}

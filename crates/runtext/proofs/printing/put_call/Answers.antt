@@ -1,8 +1,7 @@
-use Rattle.script.proofs.Writes.{and_then}
+use Rattle.script.proofs.Pages.{then}
 use Rattle.runtext.specs.Text.{call_text}
 use Rattle.runtext.proofs.printing.put_call.Goals as goal
 
 pub returns : goal.returns
 unfolding call_text
-returns c =
-    and_then (and_then (and_then (and_then c.decimal-o1.ensures c.put-o2.ensures) c.kind-o3.ensures) c.put_values-o4.ensures) c.put.ensures
+returns c = then (then (then (then c.decimal.ensures c.put.ensures) c.kind.ensures) c.put_values.ensures) c.put-2.ensures

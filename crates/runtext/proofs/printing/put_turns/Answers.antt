@@ -1,14 +1,14 @@
+use mathlib.Core.Path.{sym}
 use native.Mathlib.Omega.{arith}
-use borrow.Author.Tests.{eq-eqb, ne_eqb}
-use Rattle.script.proofs.Writes.{still, and_then}
+use Rattle.script.proofs.Pages.{blank, then}
 use Rattle.runtext.specs.Text.{turns_text}
 use Rattle.runtext.proofs.printing.put_turns.Goals as goal
 
-pub returns-then-turns-eq0 : goal.returns-then-turns-eq0
+pub returns-then-not-is_empty : goal.returns-then-not-is_empty
 unfolding turns_text
-returns-then-turns-eq0 c = simp (eq-eqb _ _ c.if-turns-eq0.true) (still _ _ (omega arith) (omega arith))
+returns-then-not-is_empty c =
+    simp (sym c.is_empty.ensures, c.if-not-is_empty.true) (then c.word.ensures c.put_rows.ensures)
 
-pub returns : goal.returns
+pub returns-else-not-is_empty : goal.returns-else-not-is_empty
 unfolding turns_text
-returns c =
-    simp (ne_eqb _ _ c.if-turns-eq0.false) (and_then c.word-o.ensures c.put_rows.ensures)
+returns-else-not-is_empty c = simp (sym c.is_empty.ensures, c.if-not-is_empty.false) (blank _ (omega arith))
