@@ -9,8 +9,9 @@ ghost use Rattle.bench.specs.Sound.{sound};
 ghost use Rattle.bench.specs.Turn.{fresh_of};
 
 use card::{Claim, Halves};
-use method::{Answer, Call, Place, Station};
+use method::{Answer, Station};
 use reach::Reach;
+use rules::Reason;
 
 mod sound;
 mod turns;
@@ -61,55 +62,33 @@ impl Bench {
     fn blank(x: u32, n: u32) -> Bench
         ensures { result ≡ blank x n }
     {
-        let zero = Halves {
-            first: 0,
-            second: 0,
-        };
-        let v = Halves {
-            first: 0,
-            second: x,
-        };
-        let p = Claim {
-            seq: 0,
-            pid: 0,
-            c: 0,
-        };
-        let call = Call {
-            kind: 0,
-            a: 0,
-            b: 0,
-        };
-        let station = Station {
-            place: Place::Rest,
-            call,
-            s: 0,
-            own: 0,
-            c: 0,
-            saw: p,
-            entry: zero,
-        };
-        let a = [zero; 33];
-        let r = [zero; 33];
-        let stations = [station; 33];
         Bench {
             n,
-            v,
-            p,
-            a,
-            r,
-            stations,
+            v: Halves {
+                first: 0,
+                second: x,
+            },
+            p: Claim::default(),
+            a: [Halves::default(); 33],
+            r: [Halves::default(); 33],
+            stations: [Station::default(); 33],
         }
     }
 
     // A fresh bench of n stations with the starting value x; refused, a bench of all zeros.
+    #[tactic(auto, unfolding(crate::specs::Turn::fresh_of))]
     pub fn fresh(x: u32, n: u32) -> Made
         ensures { result ≡ fresh_of x n }
     {
         if (n == 0) | (Self::STATIONS < n) {
-            let bench = Self::blank(0, 0);
-            return Made { refused: 3, bench };
+            return Made {
+                refused: Reason::Stations.number(),
+                bench: Self::blank(0, 0),
+            };
         }
-        let bench = Self::blank(x, n);
-        Made { refused: 0, bench }
+        Made {
+            refused: 0,
+            bench: Self::blank(x, n),
+        }
     }
 }

@@ -6,15 +6,17 @@ ghost use Rattle.bench.specs.Turn.{turn_of};
 use crate::{Bench, SoundBench, Turned};
 use method::{Answer, Call};
 use reach::{Reach, reaches};
+use rules::Reason;
 
 impl SoundBench {
     // One turn, which changes the bench where it is. Refused, nothing changes.
+    #[tactic(auto, using(crate::proofs::InPlace::inside, crate::proofs::InPlace::reached), unfolding(crate::specs::Turn::turn_of))]
     pub fn turn(&mut self, station: u32, offer: Call) -> Answer
         ensures { turned result self.new.bench ≡ turn_of self.old.bench station offer.kind offer.a offer.b }
     {
         let n = self.bench.n;
         if (station == 0) | (n < station) {
-            return Answer::Refused(10);
+            return Answer::Refused(Reason::Station.number());
         }
         let at = station as usize;
         let t = self.bench.stations[at];
@@ -27,7 +29,7 @@ impl SoundBench {
             r: self.bench.r[to],
             station: t,
         };
-        let m = g.moved(offer.kind, offer.a, offer.b);
+        let m = g.moved(offer);
         self.bench.v = m.reach.v;
         self.bench.p = m.reach.p;
         self.bench.a[to] = m.reach.a;
@@ -45,7 +47,7 @@ impl Bench {
     {
         if !self.sound() {
             return Turned {
-                answer: Answer::Refused(9),
+                answer: Answer::Refused(Reason::Unsound.number()),
                 bench: self,
             };
         }
