@@ -60,27 +60,31 @@ impl Reach {
     // The largest version that a contest may start from.
     pub const VERSION: u32 = 4294967292;
 
+    // The turn ends with the answer.
+    fn answers(self, answer: Answer) -> Moved
+        ensures { result ≡ moved answer self }
+    {
+        Moved {
+            answer,
+            reach: self,
+        }
+    }
+
     // The station goes on to the place, one own turn later.
     fn goes(mut self, place: Place) -> Moved
         requires { self.station.own < 10 }
-        ensures { result ≡ on_reach.give Going (on_reach.put_station self.id (goes self.station place) self) }
+        ensures { result ≡ moved Going (on_reach.put_station self.id (goes self.station place) self) }
     {
         self.station.place = place;
         self.station.own += 1;
-        Moved {
-            answer: Answer::Going,
-            reach: self,
-        }
+        self.answers(Answer::Going)
     }
 
     // Refused, and nothing moved.
     fn refused(self, reason: Reason) -> Moved
         ensures { result ≡ moved (Refused (number_of reason)) self }
     {
-        Moved {
-            answer: Answer::Refused(reason.number()),
-            reach: self,
-        }
+        self.answers(Answer::Refused(reason.number()))
     }
 
     fn move_5(mut self, offer: Call) -> Moved
@@ -88,17 +92,11 @@ impl Reach {
     {
         if self.v.second != offer.a {
             let result = handed(offer.kind, 0, self.v.second);
-            return Moved {
-                answer: Answer::Ended { result, own: 1 },
-                reach: self,
-            };
+            return self.answers(Answer::Ended { result, own: 1 });
         }
         if offer.a == offer.b {
             let result = handed(offer.kind, 1, self.v.second);
-            return Moved {
-                answer: Answer::Ended { result, own: 1 },
-                reach: self,
-            };
+            return self.answers(Answer::Ended { result, own: 1 });
         }
         self.station = Station {
             call: offer,
@@ -116,17 +114,11 @@ impl Reach {
         ensures { result ≡ step_of on_reach Rest self self.id self.station offer.kind offer.a offer.b }
     {
         if offer.kind == 3 {
-            return Moved {
-                answer: Answer::Idle,
-                reach: self,
-            };
+            return self.answers(Answer::Idle);
         }
         if offer.kind == 0 {
             let result = self.v.second;
-            return Moved {
-                answer: Answer::Ended { result, own: 1 },
-                reach: self,
-            };
+            return self.answers(Answer::Ended { result, own: 1 });
         }
         if self.station.c == Self::COUNT {
             return self.refused(Reason::Count);
@@ -142,9 +134,10 @@ impl Reach {
         ensures { result ≡ row11 on_reach self self.id self.station }
     {
         self.station.c += 1;
+        let t = self.station;
         self.a = Halves {
-            first: self.station.c,
-            second: self.station.call.b,
+            first: t.c,
+            second: t.call.b,
         };
         self.goes(Place::At12)
     }
@@ -221,13 +214,8 @@ impl Reach {
             c: t.c,
             ..Station::default()
         };
-        Moved {
-            answer: Answer::Ended {
-                result,
-                own: t.own + 1,
-            },
-            reach: self,
-        }
+        let own = t.own + 1;
+        self.answers(Answer::Ended { result, own })
     }
 
     // The operation of the place where the station stands.
