@@ -1,15 +1,14 @@
 -- Texts laid into a buffer, one after the other. Assumes nothing.
-use mathlib.Core.Path.{◌≡◌, ◌∙◌, sym, ap}
+use mathlib.Core.Path.{◌≡◌, refl, ◌∙◌, sym, ap}
 use mathlib.Core.List.{List, [], ◌∷◌, ◌++◌, append_assoc}
-use Prim.Native.Nat.{ℕ, suc, ◌+◌, ◌-◌, ◌<◌, ◌≤◌}
+use Prim.Native.Nat.{ℕ, suc, ◌+◌, ◌-◌, ◌≤◌}
 use native.Mathlib.Omega.{arith}
 use native.Mathlib.Nat.{add-zero, add-suc, suc-add, zero-add}
-use native.Mathlib.Numerals.{add-one}
-use lib.ListN.{length, get_or, take, drop, set, length-append}
+use lib.ListN.{length, take, drop, set, length-append}
 use borrow.Rule.Slice.PartMut.{mid_of, put_mid, mid_len}
 use Rattle.octets.specs.Bytes.{bytes}
 use Rattle.octets.proofs.Bytes.{length-bytes}
-use lib.Seq.{sets, sets-eq, drop-drop, drop-cons, drop-length}
+use lib.Seq.{sets, sets-eq, drop-drop}
 
 -- buffer b is a with a text of k bytes laid into it, from place at on
 pub record Laid (a b : List ℕ) (at k : ℕ) (text : List ℕ) : Type 0 where
@@ -45,6 +44,13 @@ module _ (out text : List ℕ) where
   pub in_front : (k : ℕ) → length text ≡ k → k ≤ length out → sets out 0 text ≡ text ++ drop k out
   in_front k e h = sets-eq text out 0 (omega arith) ∙ ap (λ i. text ++ drop i out) (zero-add (length text) ∙ e)
 
+-- a text, copied into a part of its length that was lent and came back
+pub part_laid : (out back text : List ℕ) (at : ℕ) → at + length text ≤ length out → back ≡ text
+    → put_mid at (at + length text - at) out back ≡ sets out at text
+part_laid out back text at h e =
+    let d : at + length text - at ≡ length text = omega arith in
+    rw (d, e) (put_back out text at (length text) refl h)
+
 -- the k bytes of x, stored into a part of k places that was lent and came back
 pub part_stored : (out back : List ℕ) (at k x : ℕ) → at + k ≤ length out → back ≡ bytes (length (mid_of at (at + k - at) out)) x
     → put_mid at (at + k - at) out back ≡ sets out at (bytes k x)
@@ -52,12 +58,3 @@ part_stored out back at k x h e =
     let d : at + k - at ≡ k = omega arith in
     let q : back ≡ bytes k x = e ∙ ap (λ m. bytes m x) (mid_len at (at + k) out h ∙ d) in
     rw (d, q) (put_back out (bytes k x) at k (length-bytes k x) h)
-
--- with i of the text's bytes laid, one more
-pub lay_one : (out text : List ℕ) (at i : ℕ) → i < length text → sets out (at + i) (drop i text) ≡ sets (set out (at + i) (get_or text i 0)) (at + (i + 1)) (drop (i + 1) text)
-lay_one out text at i h = ap (sets out (at + i)) (drop-cons text i 0 h) ∙ rw (add-one, add-suc)
-
-pub all_laid : (out text : List ℕ) (at i : ℕ) → length text ≤ i → i ≤ length text → sets out at (drop i text) ≡ out
-all_laid out text at i h g =
-    let e : i ≡ length text = omega arith in
-    rw (e, drop-length)

@@ -16,11 +16,7 @@ fn lay(out: &mut [u8], at: usize, s: &[u8])
     requires { at + length s.now ≤ length out.old }
     ensures { out.new ≡ sets out.old at s.now }
 {
-    let mut i = 0;
-    while i < s.len() {
-        out[at + i] = s[i];
-        i = i + 1;
-    }
+    out[at..at + s.len()].copy_from_slice(s);
 }
 
 // Writes the k bytes of x into the buffer, from place at on.
@@ -28,8 +24,7 @@ fn put(out: &mut [u8], at: usize, k: usize, x: u32)
     requires { at + k ≤ length out.old }
     ensures { out.new ≡ sets out.old at (bytes k x) }
 {
-    let e = at + k;
-    octets::store(&mut out[at..e], x as u64);
+    octets::store(&mut out[at..at + k], u64::from(x));
 }
 
 fn put_trailer(out: &mut [u8], at: usize, z: Trailer)
