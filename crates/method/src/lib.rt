@@ -76,6 +76,7 @@ impl Place {
     }
 }
 
+// The place with this number; an error where no place has it.
 impl TryFrom<u32> for Place {
     type Error = NoPlace;
 

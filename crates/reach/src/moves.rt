@@ -1,5 +1,5 @@
 // One station's operation, on what one turn can reach. Small values are moved here, and not the bench, so that a turn costs little.
-// The move of a place assumes that its station's numbers can grow without wrapping (`Ready`); `Reach::moved` tests that.
+// The move of a place wants its station's numbers able to grow (`Movable`); `Reach::moved` tests that.
 ghost use Rattle.std.specs.Prelude.{◌≡◌, ◌<◌, false};
 ghost use Rattle.rules.specs.Reason.{number_of};
 ghost use Rattle.method.specs.Table.{handed, goes, after16, row5, row11, row12, row13, row14, row15, row16, row18, row19, row20};
@@ -12,6 +12,13 @@ use crate::{Moved, Reach};
 use card::{Claim, Halves};
 use method::{Answer, Call, Place, Station};
 use rules::Reason;
+
+// What a turn reaches, where the station's numbers can grow without wrapping.
+#[derive(Clone, Copy)]
+struct Movable {
+    reach: Reach,
+    ghost ready: { Ready reach.station },
+}
 
 // What a set or a swap hands back.
 fn handed(kind: u32, truth: u32, read: u32) -> u32
@@ -60,27 +67,31 @@ impl Reach {
     // The largest version that a contest may start from.
     pub const VERSION: u32 = 4294967292;
 
+    // The turn ends with the answer.
+    fn answers(self, answer: Answer) -> Moved
+        ensures { result ≡ moved answer self }
+    {
+        Moved {
+            answer,
+            reach: self,
+        }
+    }
+
     // The station goes on to the place, one own turn later.
     fn goes(mut self, place: Place) -> Moved
         requires { self.station.own < 10 }
-        ensures { result ≡ on_reach.give Going (on_reach.put_station self.id (goes self.station place) self) }
+        ensures { result ≡ moved Going (on_reach.put_station self.id (goes self.station place) self) }
     {
         self.station.place = place;
         self.station.own += 1;
-        Moved {
-            answer: Answer::Going,
-            reach: self,
-        }
+        self.answers(Answer::Going)
     }
 
     // Refused, and nothing moved.
     fn refused(self, reason: Reason) -> Moved
         ensures { result ≡ moved (Refused (number_of reason)) self }
     {
-        Moved {
-            answer: Answer::Refused(reason.number()),
-            reach: self,
-        }
+        self.answers(Answer::Refused(reason.number()))
     }
 
     fn move_5(mut self, offer: Call) -> Moved
@@ -88,17 +99,11 @@ impl Reach {
     {
         if self.v.second != offer.a {
             let result = handed(offer.kind, 0, self.v.second);
-            return Moved {
-                answer: Answer::Ended { result, own: 1 },
-                reach: self,
-            };
+            return self.answers(Answer::Ended { result, own: 1 });
         }
         if offer.a == offer.b {
             let result = handed(offer.kind, 1, self.v.second);
-            return Moved {
-                answer: Answer::Ended { result, own: 1 },
-                reach: self,
-            };
+            return self.answers(Answer::Ended { result, own: 1 });
         }
         self.station = Station {
             call: offer,
@@ -116,17 +121,11 @@ impl Reach {
         ensures { result ≡ step_of on_reach Rest self self.id self.station offer.kind offer.a offer.b }
     {
         if offer.kind == 3 {
-            return Moved {
-                answer: Answer::Idle,
-                reach: self,
-            };
+            return self.answers(Answer::Idle);
         }
         if offer.kind == 0 {
             let result = self.v.second;
-            return Moved {
-                answer: Answer::Ended { result, own: 1 },
-                reach: self,
-            };
+            return self.answers(Answer::Ended { result, own: 1 });
         }
         if self.station.c == Self::COUNT {
             return self.refused(Reason::Count);
@@ -135,119 +134,6 @@ impl Reach {
             return self.refused(Reason::Version);
         }
         self.move_5(offer)
-    }
-
-    fn move_11(mut self) -> Moved
-        requires { Ready self.station }
-        ensures { result ≡ row11 on_reach self self.id self.station }
-    {
-        self.station.c += 1;
-        self.a = Halves {
-            first: self.station.c,
-            second: self.station.call.b,
-        };
-        self.goes(Place::At12)
-    }
-
-    fn move_12(mut self) -> Moved
-        requires { Ready self.station }
-        ensures { result ≡ row12 on_reach self self.id self.station }
-    {
-        self.r = Halves {
-            first: self.station.c,
-            second: 0,
-        };
-        self.goes(Place::At13)
-    }
-
-    fn move_13(mut self) -> Moved
-        requires { Ready self.station }
-        ensures { result ≡ row13 on_reach self self.id self.station }
-    {
-        let t = self.station;
-        self.p = self.p.max_write(t.s + 1, self.id, t.c);
-        self.goes(Place::At14)
-    }
-
-    fn move_14(mut self) -> Moved
-        requires { Ready self.station }
-        ensures { result ≡ row14 on_reach self self.id self.station }
-    {
-        self.p = self.p.half_max(self.station.s + 2);
-        self.goes(Place::At15)
-    }
-
-    fn move_15(mut self) -> Moved
-        requires { Ready self.station }
-        ensures { result ≡ row15 on_reach self self.id self.station }
-    {
-        self.station.saw = self.p;
-        self.goes(Place::At16)
-    }
-
-    fn move_16(mut self) -> Moved
-        requires { Ready self.station }
-        ensures { result ≡ row16 on_reach self self.id self.station }
-    {
-        self.station.entry = self.a;
-        let place = after_16(self.station.saw, self.a);
-        self.goes(place)
-    }
-
-    fn move_18(mut self) -> Moved
-        requires { Ready self.station }
-        ensures { result ≡ row18 on_reach self self.id self.station }
-    {
-        self.r = self.r.max_write(self.station.entry.first, 1);
-        self.goes(Place::At19)
-    }
-
-    fn move_19(mut self) -> Moved
-        requires { Ready self.station }
-        ensures { result ≡ row19 on_reach self self.id self.station }
-    {
-        let t = self.station;
-        self.v = self.v.max_write(t.saw.seq, t.entry.second);
-        self.goes(Place::At20)
-    }
-
-    fn move_20(mut self) -> Moved
-        requires { Ready self.station }
-        ensures { result ≡ row20 on_reach self self.id self.station }
-    {
-        let t = self.station;
-        let result = handed(t.call.kind, self.r.second, t.call.a);
-        self.station = Station {
-            c: t.c,
-            ..Station::default()
-        };
-        Moved {
-            answer: Answer::Ended {
-                result,
-                own: t.own + 1,
-            },
-            reach: self,
-        }
-    }
-
-    // The operation of the place where the station stands.
-    #[tactic(auto, unfolding(crate::specs::Step::step_of, method::specs::Table::row))]
-    fn move_at(self, offer: Call) -> Moved
-        requires { Ready self.station × (bad_offer offer.kind offer.a offer.b ≡ false) }
-        ensures { result ≡ step_on on_reach self self.id self.station offer.kind offer.a offer.b }
-    {
-        match self.station.place {
-            Place::Rest => self.move_rest(offer),
-            Place::At11 => self.move_11(),
-            Place::At12 => self.move_12(),
-            Place::At13 => self.move_13(),
-            Place::At14 => self.move_14(),
-            Place::At15 => self.move_15(),
-            Place::At16 => self.move_16(),
-            Place::At18 => self.move_18(),
-            Place::At19 => self.move_19(),
-            Place::At20 => self.move_20(),
-        }
     }
 
     // One station's move. Refused 9, and nothing moved, where its numbers could wrap, as those of a sound bench cannot; then 11 to 13 as a turn is.
@@ -261,6 +147,117 @@ impl Reach {
         if bad_offer(offer) {
             return self.refused(Reason::Offer);
         }
-        self.move_at(offer)
+        Movable { reach: self }.moves(offer)
+    }
+}
+
+impl Movable {
+    fn move_11(self) -> Moved
+        ensures { result ≡ row11 on_reach self.reach self.reach.id self.reach.station }
+    {
+        let mut reach = self.reach;
+        reach.station.c += 1;
+        let t = reach.station;
+        reach.a = Halves {
+            first: t.c,
+            second: t.call.b,
+        };
+        reach.goes(Place::At12)
+    }
+
+    fn move_12(self) -> Moved
+        ensures { result ≡ row12 on_reach self.reach self.reach.id self.reach.station }
+    {
+        let mut reach = self.reach;
+        reach.r = Halves {
+            first: reach.station.c,
+            second: 0,
+        };
+        reach.goes(Place::At13)
+    }
+
+    fn move_13(self) -> Moved
+        ensures { result ≡ row13 on_reach self.reach self.reach.id self.reach.station }
+    {
+        let mut reach = self.reach;
+        let t = reach.station;
+        reach.p = reach.p.max_write(t.s + 1, reach.id, t.c);
+        reach.goes(Place::At14)
+    }
+
+    fn move_14(self) -> Moved
+        ensures { result ≡ row14 on_reach self.reach self.reach.id self.reach.station }
+    {
+        let mut reach = self.reach;
+        reach.p = reach.p.half_max(reach.station.s + 2);
+        reach.goes(Place::At15)
+    }
+
+    fn move_15(self) -> Moved
+        ensures { result ≡ row15 on_reach self.reach self.reach.id self.reach.station }
+    {
+        let mut reach = self.reach;
+        reach.station.saw = reach.p;
+        reach.goes(Place::At16)
+    }
+
+    fn move_16(self) -> Moved
+        ensures { result ≡ row16 on_reach self.reach self.reach.id self.reach.station }
+    {
+        let mut reach = self.reach;
+        reach.station.entry = reach.a;
+        let place = after_16(reach.station.saw, reach.a);
+        reach.goes(place)
+    }
+
+    fn move_18(self) -> Moved
+        ensures { result ≡ row18 on_reach self.reach self.reach.id self.reach.station }
+    {
+        let mut reach = self.reach;
+        reach.r = reach.r.max_write(reach.station.entry.first, 1);
+        reach.goes(Place::At19)
+    }
+
+    fn move_19(self) -> Moved
+        ensures { result ≡ row19 on_reach self.reach self.reach.id self.reach.station }
+    {
+        let mut reach = self.reach;
+        let t = reach.station;
+        reach.v = reach.v.max_write(t.saw.seq, t.entry.second);
+        reach.goes(Place::At20)
+    }
+
+    fn move_20(self) -> Moved
+        ensures { result ≡ row20 on_reach self.reach self.reach.id self.reach.station }
+    {
+        let mut reach = self.reach;
+        let t = reach.station;
+        let result = handed(t.call.kind, reach.r.second, t.call.a);
+        reach.station = Station {
+            c: t.c,
+            ..Station::default()
+        };
+        let own = t.own + 1;
+        reach.answers(Answer::Ended { result, own })
+    }
+
+    // The operation of the place where the station stands.
+    #[tactic(auto, unfolding(crate::specs::Step::step_of, method::specs::Table::row))]
+    fn moves(self, offer: Call) -> Moved
+        requires { bad_offer offer.kind offer.a offer.b ≡ false }
+        ensures { result ≡ step_on on_reach self.reach self.reach.id self.reach.station offer.kind offer.a offer.b }
+    {
+        match self.reach.station.place {
+            Place::Rest => self.reach.move_rest(offer),
+            Place::At11 => self.move_11(),
+            Place::At12 => self.move_12(),
+            Place::At13 => self.move_13(),
+            Place::At14 => self.move_14(),
+            Place::At15 => self.move_15(),
+            Place::At16 => self.move_16(),
+            Place::At18 => self.move_18(),
+            Place::At19 => self.move_19(),
+            Place::At20 => self.move_20(),
+        }
     }
 }

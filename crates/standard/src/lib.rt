@@ -2,52 +2,41 @@
 // What is read and written no contract can say; how many bytes of the buffer were read it does.
 #![tactic(auto)]
 
-ghost use Rattle.standard.specs.Counts.{IsPrefixLen};
+ghost use Rattle.std.specs.Prelude.{◌≤◌, length};
+ghost use Rattle.std.specs.Io.{ReadsAtMost};
 
-use std::io::Read;
-
-// How many bytes stand at the front of the buffer, and whether a read failed before the input ended or the buffer was full.
-#[derive(Clone, Copy)]
-pub struct Input {
-    pub len: usize,
-    pub failed: bool,
-}
+use std::io::{Error, Read, Result};
 
 // Reads until the buffer is full, the input ends or a read fails.
 fn read_full(from: &mut impl Read, buf: &mut [u8]) -> usize
-    ensures { IsPrefixLen result buf.new }
+    ensures { result ≤ length buf.new }
 {
     let mut len = 0;
+    // A turn adds what came, so there is no range to go through.
     while len < buf.len() {
         match from.read(&mut buf[len..]) {
-            Ok(0) => return len,
+            Ok(0) | Err(_) => return len,
             Ok(n) => len += n,
-            Err(_) => return len,
         }
     }
     len
 }
 
-// One more read tells the end of the input from a read that failed.
-pub fn read_input(from: &mut impl Read, buf: &mut [u8]) -> Input
-    ensures { IsPrefixLen result.len buf.new }
+// How many bytes stand at the front of the buffer. One more read tells the end of the input from a read that failed.
+pub fn read_input(from: &mut impl Read, buf: &mut [u8]) -> Result<usize>
+    ensures { ReadsAtMost result buf.new }
 {
     let len = read_full(from, buf);
-    let mut one = [0u8; 1];
-    let full = len == buf.len();
-    let failed = match from.read(&mut one) {
-        Ok(more) => !full & (more != 0),
-        Err(_) => true,
-    };
-    Input { len, failed }
+    let more = from.read(&mut [0u8; 1])?;
+    if (len < buf.len()) & (more != 0) {
+        return Err(Error::other("the input was not at its end"));
+    }
+    Ok(len)
 }
 
-// Writes the front of a buffer. Where that fails, the line lost goes to standard error.
-pub fn write_front(to: &impl Print, err: &impl Print, buf: &[u8], len: usize, lost: &[u8]) {
-    if len <= buf.len() {
-        if to.write_all(&buf[0..len]).is_ok() {
-            return;
-        }
+// Writes the bytes. Where that fails, the line lost goes to standard error.
+pub fn write_front(to: &impl Print, err: &impl Print, bytes: &[u8], lost: &[u8]) {
+    if to.write_all(bytes).is_err() {
+        let _ = err.write_all(lost);
     }
-    let _ = err.write_all(lost);
 }
