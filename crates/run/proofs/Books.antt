@@ -1,18 +1,13 @@
 -- Changes of the book, one after the other, in the definitions and in the row. Assumes nothing.
 use mathlib.Core.Path.{◌≡◌, refl, ◌∙◌, sym, ap}
-use mathlib.Core.Bool.{Bool, true, false, not, ◌&&◌}
+use mathlib.Core.Bool.{Bool, true, false}
 use mathlib.Core.List.{List, [], ◌∷◌, ◌++◌}
-use Prim.Native.Nat.{ℕ, suc, ◌+◌, ◌<◌}
-use lib.Dec.{eqb}
+use Prim.Native.Nat.{ℕ, ◌+◌, ◌<◌}
 use lib.ListN.{get_or, set, length-set}
-use Rattle.method.specs.declared.Answer.{Answer}
-use Rattle.method.specs.declared.Answer.TheVariants.{Idle, Going, Ended, Refused}
 use Rattle.run.specs.declared.Tally.{Tally}
 use Rattle.run.specs.declared.Errand.{Errand}
-use Rattle.run.specs.declared.Operation.{Operation}
-use Rattle.run.specs.Book.{Book, acts, enters, all_enter, call_ends, waiters, acts_for, goes_on, unended}
+use Rattle.run.specs.Book.{Book, acts, enters, all_enter, call_ends, acts_for}
 use Rattle.run.specs.Row.{size_of, start_of, part_of, wrote, book_in, notes_by, on_book, point_count, RowFits, Becomes, HasPlaces}
-use Rattle.run.specs.Drive.{one_idle}
 use Rattle.run.proofs.Written.{written, read}
 use Rattle.run.proofs.Points.{within_set}
 

@@ -1,16 +1,15 @@
 -- Changes of a ledger, one after the other. Assumes nothing.
 use mathlib.Core.Path.{◌≡◌, refl, ◌∙◌, sym, ap}
 use mathlib.Core.Bool.{Bool, true, false, not, ◌&&◌}
-use mathlib.Core.List.{List, [], ◌∷◌, ◌++◌}
+use mathlib.Core.List.{[], ◌∷◌}
 use Prim.Native.Nat.{ℕ, zero, suc, ◌+◌, ◌-◌, ◌<◌, ◌≤◌}
 use native.Mathlib.Omega.{arith}
-use native.Mathlib.Numerals.{add-one}
 use lib.Dec.{eqb}
 use lib.ListN.{get_or}
 use Rattle.card.specs.declared.Claim.{Claim}
 use Rattle.run.specs.declared.Ledger.{Ledger}
 use Rattle.run.specs.Book.{Book, enters, all_enter, waiters}
-use Rattle.run.specs.Row.{size_of, start_of, part_of, RowFits}
+use Rattle.run.specs.Row.{size_of, start_of}
 use Rattle.run.specs.Ledger.{Fits, Changes, wait_in}
 use Rattle.run.proofs.Written.{read}
 use Rattle.run.proofs.Books.{unchanged, same_change, and_then, same_wait, enter_more}

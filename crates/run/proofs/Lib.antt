@@ -5,7 +5,6 @@ pub mod Ledgers
 pub mod Links
 pub mod Steps
 pub mod After
-pub mod Sizes
 pub mod Files
 pub mod Loop
 pub mod Start

@@ -1,18 +1,17 @@
 -- Whose next call is which, from the table's end down, in lists and in the row. Assumes nothing.
-use mathlib.Core.Path.{◌≡◌, refl, ◌∙◌, sym, ap}
-use mathlib.Core.Bool.{Bool, true, false, cond, not, ◌&&◌}
+use mathlib.Core.Path.{◌≡◌, ◌∙◌, sym, ap}
+use mathlib.Core.Bool.{cond}
 use mathlib.Core.List.{List}
 use Prim.Native.Nat.{ℕ, zero, suc, ◌+◌, ◌-◌, ◌<◌, ◌≤◌}
 use native.Mathlib.Omega.{arith}
 use native.Mathlib.Decide.{ℕ_discrete}
-use borrow.Author.Tests.{eq-eqb, ne_eqb, eqb-true, not-false}
-use Rattle.method.specs.Record.{call}
+use borrow.Author.Tests.{eq-eqb, ne_eqb}
 use lib.Dec.{eqb}
 use lib.ListN.{length, get_or, set, take, drop, replicate, get_or-replicate, length-set, length-replicate, replicate-append-replicate}
 use lib.Seq.{get_or-set_same, get_or-set_other, take_at, drop_at}
 use Rattle.runfile.specs.First.{first_from}
 use Rattle.runfile.specs.Layout.{records, call_of}
-use Rattle.run.specs.Calls.{call_after, offer, Linked}
+use Rattle.run.specs.Calls.{call_after, Linked}
 use Rattle.run.specs.Row.{by_station, size_of, start_of, row_places, zero_row, part_of, wrote}
 use Rattle.run.specs.Drive.{LinkedIn}
 use Rattle.run.proofs.Written.{in_order, written, read, long}

@@ -1,9 +1,9 @@
 -- The run loop's invariant, and that one more turn keeps it. Assumes nothing.
 use mathlib.Core.Path.{◌≡◌, refl, ◌∙◌, sym, ap}
 use mathlib.Core.Logic.{⊎_elim}
-use mathlib.Core.Bool.{Bool, true, false, cond, ◌&&◌, false≢true}
+use mathlib.Core.Bool.{Bool, true, false, cond, ◌&&◌}
 use mathlib.Core.List.{List}
-use Prim.Native.Nat.{ℕ, zero, suc, ◌+◌, ◌<◌, ◌≤◌}
+use Prim.Native.Nat.{ℕ, ◌+◌, ◌<◌, ◌≤◌}
 use native.Mathlib.Omega.{arith}
 use native.Mathlib.Numerals.{add-one}
 use borrow.Author.Tests.{eqb-true}
@@ -37,15 +37,16 @@ use Rattle.bench.proofs.Bridge.{taken, put_back}
 use Rattle.bench.proofs.Promised.{turn_sound}
 use Rattle.run.specs.declared.Tally.{Tally}
 use Rattle.run.specs.declared.Errand.{Errand}
+use Rattle.run.specs.declared.Ledger.{Ledger}
 use Rattle.run.specs.declared.Operation.{Operation}
 use Rattle.run.specs.Calls.{offer, offering, on_offer, call_for, errand_of, errand_by, operation_of, waits}
 use Rattle.run.specs.Book.{Book, idles, finishes, unended}
 use Rattle.card.specs.declared.Claim.{Claim}
-use Rattle.run.specs.Ledger.{ClaimWithin, Within}
+use Rattle.run.specs.Ledger.{Takes, ClaimWithin, Within}
 use Rattle.std.specs.Prelude.{Option, None, Some}
 use Rattle.run.specs.Row.{by_station, size_of, start_of, part_of, book_in, notes_in, RowFits, Becomes, HasPlaces}
 use Rattle.run.specs.Run.{Run, noted, step_run, run_from}
-use Rattle.run.specs.Drive.{one_idle, Good, NotesOf}
+use Rattle.run.specs.Drive.{Good, NotesOf}
 use Rattle.run.proofs.Written.{read}
 use Rattle.run.proofs.Books.{same_change}
 use Rattle.run.proofs.Steps.{same_offer, station_good, idle_turn, acting, ended_noted, going_noted}
@@ -161,9 +162,16 @@ module _ (n : ℕ) (start : Run) (table turns : List ℕ) (w : Bench) (row : Lis
     turn = omega arith;
   }
 
-  -- what the book asks of a turn that ended its call
-  pub may_end : (errand : Errand) → errand ≡ e → RowFits row s × (HasPlaces errand × ((s.begun < 65536) × (s.ended < 65536)))
-  may_end errand errand_is = rw errand_is (kept.fits, (has_places, (omega (arith, kept.begun, good.few), omega (arith, kept.ended, good.few))))
+  -- what the ledger asks of a turn
+  pub may_take : (ledger : Ledger) (errand : Errand) → ledger.row.now ≡ row → ledger.tally ≡ s → errand ≡ e → Takes ledger errand
+  may_take ledger errand row_is tally_is errand_is =
+      record {
+        fits = rw (row_is, tally_is) kept.fits;
+        places = rw errand_is has_places;
+        idle = rw tally_is (omega (arith, kept.idle, good.few));
+        begun = rw tally_is (omega (arith, kept.begun, good.few));
+        ended = rw tally_is (omega (arith, kept.ended, good.few));
+      }
 
   -- a station at rest with no call left leaves the bench as it was, and counts an idle turn
   pub after_idle : (row' : List ℕ) (s' : Tally) → (at_rest p && eqb d 0) ≡ true → Becomes row s idles row' s' → Kept n start table turns w row' s' (k + 1)
@@ -214,14 +222,11 @@ module _ (n : ℕ) (start : Run) (table turns : List ℕ) (w : Bench) (row : Lis
     same_n : w'.n ≡ w.n
     same_n = ap (λ z. z.n) put
 
-    -- what the book asks of a turn that did not end its call
-    pub may_go : (o' : Operation) → o' ≡ operation_of t w.v ht.own w'.n
-        → RowFits row s × (HasPlaces errand × ((s.begun < 65536) × (Within o' × (s.idle < 65536))))
-    may_go o' o_is =
+    -- what it asks of an operation
+    pub within : (o' : Operation) → o' ≡ operation_of t w.v ht.own w'.n → Within o'
+    within o' o_is =
         let q : t.saw.pid ≤ w.n = saved p w.n t ((facts w kept.is_sound).station i inside).stands in
-        rw (errand_is, o_is)
-        (kept.fits, (has_places, (omega (arith, kept.begun, good.few),
-        (record { claim = claimed (raises p w.v t) t.saw (omega (arith, q, few)); few = omega (arith, few, same_n) }, omega (arith, kept.idle, good.few)))))
+        rw o_is (record { claim = claimed (raises p w.v t) t.saw (omega (arith, q, few)); few = omega (arith, few, same_n) })
 
     -- a turn that is not idle has a call on offer
     begins : (x ≡ Idle → ⊥) → at_rest p ≡ true → 0 < d

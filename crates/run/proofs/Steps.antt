@@ -1,5 +1,5 @@
 -- One turn of the run loop against one turn of the run: the offer, the bench, and the book. Assumes nothing.
-use mathlib.Core.Path.{◌≡◌, refl, ◌∙◌, sym, ap}
+use mathlib.Core.Path.{◌≡◌, refl, ◌∙◌, ap}
 use mathlib.Core.Logic.{◌⊎◌, inl, inr, ⊎_elim}
 use mathlib.Core.Bool.{Bool, true, false, cond, not, ◌&&◌, false≢true}
 use mathlib.Core.List.{List, [], ◌∷◌, ◌++◌}
@@ -17,9 +17,7 @@ use Rattle.method.specs.declared.Answer.TheVariants.{Idle, Going, Ended}
 use Rattle.method.specs.Record.{num, at_rest}
 use Rattle.method.specs.Table.{row}
 use Rattle.method.specs.Effect.{one_word, raises, loses, losers, points}
-use Rattle.reach.specs.declared.Moved.{Moved}
 use Rattle.reach.specs.Step.{bad_offer, step_of}
-use Rattle.reach.specs.Reach.{reaching, move_of}
 use Rattle.bench.specs.declared.Bench.{Bench}
 use Rattle.bench.specs.Record.{station_at, on_bench}
 use Rattle.bench.specs.Record.{turned as benchTurned}
@@ -28,11 +26,9 @@ use Rattle.bench.specs.Sound.{sound}
 use Rattle.rules.specs.Limits.{bad_station}
 use Rattle.bench.specs.Turn.{turn_of}
 use Rattle.bench.specs.Promise.{turn_by}
-use Rattle.bench.proofs.Sounds.{ready_at}
-use Rattle.bench.proofs.Bridge.{taken, put_back, step_law}
 use Rattle.runfile.specs.First.{first_from}
 use Rattle.runfile.specs.Layout.{records, call_of}
-use Rattle.run.specs.Calls.{made_by, call_after, offer, offering, on_offer, call_for, errand_by, waits, operation_of}
+use Rattle.run.specs.Calls.{made_by, call_after, offering, on_offer, call_for, errand_by, waits, operation_of}
 use Rattle.run.specs.Book.{Book, acts, all_enter, call_ends, waiters, raisers, goes_on, finishes}
 use Rattle.run.specs.Run.{noted}
 use Rattle.run.proofs.Links.{none_after}

@@ -18,7 +18,7 @@ use Rattle.runfile.proofs.Trailers.{length_part}
 use Rattle.run.specs.declared.Tally.{Tally}
 use Rattle.run.specs.declared.Trace.{Trace}
 use Rattle.run.specs.declared.Drove.{Drove}
-use Rattle.run.specs.Row.{size_of, start_of, row_places, zero_row, part_of, book_in, RowFits}
+use Rattle.run.specs.Row.{size_of, start_of, row_places, part_of, book_in, RowFits}
 use Rattle.run.specs.Drive.{run_of_file}
 use Rattle.run.specs.Trace.{row_of, TraceNumbers, no_trace, given_trace, trace_numbers, trace_by, trace_of, TracedTo, RanTo}
 use Rattle.run.proofs.Written.{long}

@@ -1,5 +1,5 @@
 -- What the run loop assumes, and what it leaves: the run of the definitions, in a row. Assumes nothing.
-use Rattle.std.specs.Prelude.{◌≡◌, ◌⊎◌, false, List, ℕ, ◌+◌, ◌<◌, ◌≤◌, length, get_or, replicate}
+use Rattle.std.specs.Prelude.{◌≡◌, ◌⊎◌, false, List, ℕ, ◌<◌, ◌≤◌, length, get_or, replicate}
 use Rattle.rules.specs.Limits.{call_limit, turn_limit}
 use Rattle.runfile.specs.Layout.{records, call_of}
 use Rattle.runfile.specs.Reading.{read_of, table_of, turns_of}
@@ -14,10 +14,6 @@ use Rattle.run.specs.Run.{Run, run_from, run_of}
 
 abbrev pub no_tally : Tally
 no_tally = record { idle = 0; begun = 0; ended = 0; listed = 0 }
-
--- the counts with an idle turn more
-abbrev pub one_idle : Tally → Tally
-one_idle s = record { idle = s.idle + 1; begun = s.begun; ended = s.ended; listed = s.listed }
 
 -- every turn is of a station of the bench, and every call is a good offer
 pub record Good (n : ℕ) (table turns : List ℕ) : Type 0 where

@@ -6,7 +6,7 @@ use Rattle.run.specs.declared.Errand.{Errand}
 use Rattle.run.specs.declared.Operation.{Operation}
 use Rattle.run.specs.declared.Ledger.{Ledger}
 use Rattle.run.specs.Book.{Book}
-use Rattle.run.specs.Row.{by_station, next_part, wait_part, part_of, RowFits, Becomes}
+use Rattle.run.specs.Row.{by_station, next_part, wait_part, part_of, RowFits, Becomes, HasPlaces}
 use Rattle.run.specs.Drive.{no_tally}
 
 -- a ledger over this row, with nothing counted
@@ -17,6 +17,14 @@ pub record Opens (row : MutBor (List ℕ)) (b : Ledger) : Type 0 where
 
 abbrev pub Fits : Ledger → Type 0
 Fits b = RowFits b.row.now b.tally
+
+-- a turn more of this errand has its place in the ledger, and its counts fit
+pub record Takes (b : Ledger) (e : Errand) : Type 0 where
+  pub fits : Fits b
+  pub places : HasPlaces e
+  pub idle : b.tally.idle < 65536
+  pub begun : b.tally.begun < 65536
+  pub ended : b.tally.ended < 65536
 
 -- the book has changed so, in the same row
 pub record Changes (before : Ledger) (change : Book → Book) (after : Ledger) : Type 0 where

@@ -2,7 +2,7 @@
 ghost use Rattle.std.specs.Prelude.{◌≡◌, cond, [], ◌∷◌, ◌<◌};
 ghost use Rattle.run.specs.Book.{enters, all_enter, waiters, acts_for, goes_on, finishes, idles, unended};
 ghost use Rattle.run.specs.Row.{by_station, HasPlaces};
-ghost use Rattle.run.specs.Ledger.{Opens, Fits, Changes, Within, next_in, wait_in};
+ghost use Rattle.run.specs.Ledger.{Opens, Fits, Takes, Changes, Within, next_in, wait_in};
 
 use crate::parts::{HEAD, LAST, LATEST, LIST, NEXT, OWN, POINT, RESULT, WAIT};
 use crate::{Errand, Finish, Ledger, Operation, Tally};
@@ -30,7 +30,8 @@ impl<'a> Ledger<'a> {
             return;
         }
         let at = POINT + c as usize;
-        if self.row[at] != 0 {
+        let has_point = self.row[at] != 0;
+        if has_point {
             return;
         }
         self.row[at] = turn;
@@ -39,6 +40,7 @@ impl<'a> Ledger<'a> {
     }
 
     // Where place 19 raises V.seq to the saved version: the call of the saved pid's station, then those of the others that wait for that version, by station number.
+    #[tactic(auto, using(crate::proofs::Ledgers::none_yet))]
     fn raise(&mut self, saw: Claim, n: u32, turn: u32)
         requires { Fits self.old × ((n < by_station) × ((saw.pid < by_station) × (0 < turn))) }
         ensures { Changes self.old (all_enter turn (saw.pid ∷ waiters (wait_in self.old) saw.pid saw.seq n)) self.new }
@@ -53,7 +55,7 @@ impl<'a> Ledger<'a> {
 
     // An operation for the errand's call makes so many own turns; a station at rest begins the call with it.
     fn acted(&mut self, e: Errand, turns: u32)
-        requires { Fits self.old × (HasPlaces e × (self.old.tally.begun < 65536)) }
+        requires { Takes self.old e }
         ensures { Changes self.old (acts_for e turns (next_in self.old)) self.new }
     {
         let at = e.station as usize;
@@ -67,8 +69,9 @@ impl<'a> Ledger<'a> {
     }
 
     // A turn with an operation that did not end its call.
+    #[tactic(auto, unfolding(crate::specs::Book::goes_on, crate::specs::Book::all_enter))]
     fn operated(&mut self, e: Errand, o: Operation)
-        requires { Fits self.old × (HasPlaces e × ((self.old.tally.begun < 65536) × Within o)) }
+        requires { Takes self.old e × Within o }
         ensures { Changes self.old (goes_on e o (next_in self.old) (wait_in self.old)) self.new }
     {
         self.acted(e, o.own);
@@ -78,6 +81,7 @@ impl<'a> Ledger<'a> {
     }
 
     // A call that ends in its first turn has its point there.
+    #[tactic(auto, using(crate::proofs::Ledgers::still), unfolding(crate::specs::Book::all_enter))]
     fn at_once(&mut self, e: Errand)
         requires { Fits self.old × HasPlaces e }
         ensures { Changes self.old (all_enter e.turn (cond e.rests (e.station ∷ []) [])) self.new }
@@ -89,7 +93,7 @@ impl<'a> Ledger<'a> {
 
     // A turn that ended its call with a result.
     pub(crate) fn finished(&mut self, e: Errand, f: Finish)
-        requires { Fits self.old × (HasPlaces e × ((self.old.tally.begun < 65536) × (self.old.tally.ended < 65536))) }
+        requires { Takes self.old e }
         ensures { Changes self.old (finishes e f (next_in self.old)) self.new }
     {
         self.acted(e, f.own);
@@ -109,8 +113,9 @@ impl<'a> Ledger<'a> {
     }
 
     // A turn that did not end its call: idle, an operation after which the call goes on, or refused, which counts for nothing.
+    #[tactic(auto, using(crate::proofs::Ledgers::still), unfolding(crate::specs::Book::unended))]
     pub(crate) fn not_ended(&mut self, x: Answer, e: Errand, o: Operation)
-        requires { Fits self.old × (HasPlaces e × ((self.old.tally.begun < 65536) × (Within o × (self.old.tally.idle < 65536)))) }
+        requires { Takes self.old e × Within o }
         ensures { Changes self.old (unended x e o (next_in self.old) (wait_in self.old)) self.new }
     {
         match x {

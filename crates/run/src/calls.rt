@@ -38,8 +38,7 @@ pub(crate) fn offered(table: &[u8], e: Errand) -> Call
     if !e.rests {
         return Call {
             kind: 3,
-            a: 0,
-            b: 0,
+            ..Call::default()
         };
     }
     let r = runfile::call_at(table, e.call as usize);

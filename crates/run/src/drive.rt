@@ -1,6 +1,5 @@
 // The run loop: it keeps its own bench in place, turns it, and keeps the book.
 // It assumes good turns and good calls. Its bench is sound by its type, so that no turn tests it.
-// A station's record is read for the idle test and again after it, so that an idle turn loads no more of it than the place.
 ghost use Rattle.run.specs.Drive.{Drivable, Driven};
 
 use crate::calls::{errand, offered, operation, waiting};
@@ -18,11 +17,11 @@ pub(crate) fn drive(mut w: SoundBench, table: &[u8], turns: &[u8], row: &mut [u3
         let i = u32::from(*b);
         let at = i as usize;
         let turn = k as u32 + 1;
-        let Some(e) = errand(w.bench.stations[at], turn, i, book.row[HEAD + at], book.row[LATEST + at]) else {
+        let before = w.bench.stations[at];
+        let Some(e) = errand(before, turn, i, book.row[HEAD + at], book.row[LATEST + at]) else {
             book.idled();
             continue;
         };
-        let before = w.bench.stations[at];
         let v = w.bench.v;
         let x = w.turn(i, offered(table, e));
         let after = w.bench.stations[at];

@@ -5,9 +5,9 @@ use Rattle.run.proofs.Ledger.acted.Goals as goal
 pub returns-then-e : goal.returns-then-e
 returns-then-e c =
     let b = c.args.self.now in
-    record { same = refl; became = from_rest b.row.now b.tally c.args.e c.args.turns c.requires.0 c.requires.1.0 c.if-e.true }
+    record { same = refl; became = from_rest b.row.now b.tally c.args.e c.args.turns c.requires.fits c.requires.places c.if-e.true }
 
 pub returns-else-e : goal.returns-else-e
 returns-else-e c =
     let b = c.args.self.now in
-    record { same = refl; became = in_call_lem b.row.now b.tally c.args.e c.args.turns c.requires.0 c.requires.1.0 c.if-e.false }
+    record { same = refl; became = in_call_lem b.row.now b.tally c.args.e c.args.turns c.requires.fits c.requires.places c.if-e.false }

@@ -16,10 +16,10 @@ bounds-self-at c =
     let few : get_or b.row.now (5125 + c.args.j) 0 < 1025 = small b.row.now b.tally c.args.j c.args.turn c.requires.0 c.requires.1.0 in
     omega (arith, few, c.requires.0.places)
 
-pub returns-then-self-at-ne0 : goal.returns-then-self-at-ne0
-returns-then-self-at-ne0 c =
+pub returns-then-has_point : goal.returns-then-has_point
+returns-then-has_point c =
     let b = c.args.self.now in
-    record { same = refl; became = has_one b.row.now b.tally c.args.j c.args.turn c.requires.0 c.requires.1.0 c.if-c-eq0.false c.if-self-at-ne0.true }
+    record { same = refl; became = has_one b.row.now b.tally c.args.j c.args.turn c.requires.0 c.requires.1.0 c.if-c-eq0.false c.if-has_point.true }
 
 pub bounds-self-at-2 : goal.bounds-self-at-2
 bounds-self-at-2 c =

@@ -20,7 +20,7 @@ overflow_add-self-3 c =
     ∙ sym (ap (λ (b : Book). b.ended) (enter_all e.turn (cond e.rests (e.station ∷ []) []) (book_in n.row.now n.tally)))
     ∙ same_ended c.acted.ensures.became
     ∙ acts_ended e.rests e.station e.call (get_or (part_of s.row.now 8) e.call 0) c.args.f.own (book_in s.row.now s.tally) in
-    omega (arith, ended_so_far, c.requires.1.1.1)
+    omega (arith, ended_so_far, c.requires.ended)
 
 pub returns : goal.returns
 unfolding finishes
@@ -28,4 +28,4 @@ returns c =
     let e = c.args.e in
     let n = c.at_once.new.self in
     then (then c.acted.ensures c.at_once.ensures)
-    (record { same = refl; became = call_ends_lem n.row.now n.tally e.turn e.call c.args.f.result c.at_once.ensures.became.fits c.requires.1.0.call })
+    (record { same = refl; became = call_ends_lem n.row.now n.tally e.turn e.call c.args.f.result c.at_once.ensures.became.fits c.requires.places.call })

@@ -5,9 +5,6 @@ use Rattle.run.proofs.Books.{same_wait}
 use Rattle.run.proofs.Ledgers.{renamed, then}
 use Rattle.run.proofs.Ledger.operated.Goals as goal
 
-pub raise-requires : goal.raise-requires
-raise-requires c = (c.acted.ensures.became.fits, (c.requires.1.1.1.few, (rw c.in-Some.is at c.requires.1.1.1.claim, c.requires.1.0.turn)))
-
 pub returns-in-Some : goal.returns-in-Some
 unfolding goes_on
 returns-in-Some c =
@@ -16,7 +13,3 @@ returns-in-Some c =
     let q = c.acted.new.self in
     let raised : Changes q (all_enter a.e.turn (raisers o (wait_in q))) c.raise.new.self = rw c.in-Some.is c.raise.ensures in
     renamed (λ b. ap (λ wait. all_enter a.e.turn (raisers o wait) (acts_for a.e o.own (next_in a.self.now) b)) (same_wait c.acted.ensures.became)) (then c.acted.ensures raised)
-
-pub returns-in_default : goal.returns-in_default
-unfolding goes_on all_enter
-returns-in_default c = rw c.in_default.is c.acted.ensures

@@ -1,18 +1,9 @@
 use mathlib.Core.Path.{◌≡◌}
 use Prim.Native.Nat.{◌+◌, ◌-◌}
 use native.Mathlib.Omega.{arith}
-use Rattle.run.proofs.Ledgers.{none_yet, one_waits, one_less, winner_first}
+use Rattle.run.proofs.Ledgers.{one_waits, one_less, winner_first}
 use Rattle.run.proofs.Ledger.raise.Goals.{then-j-saw, else-j-saw}
 use Rattle.run.proofs.Ledger.raise.Goals as goal
-
-pub loop-j-init : goal.loop-j-init
-loop-j-init c = (omega arith, none_yet c.enter.new.self c.args.saw c.args.turn c.enter.ensures.became.fits)
-
-pub bounds-self-j : goal.bounds-self-j
-bounds-self-j c = omega (arith, c.loop-j.invariant.1.became.fits.places, c.requires.1.0)
-
-pub enter-requires-then-j-saw : goal.enter-requires-then-j-saw
-enter-requires-then-j-saw c = (c.loop-j.invariant.1.became.fits, (omega (arith, c.requires.1.0), c.requires.1.1.1))
 
 pub loop-j-preserved : goal.loop-j-preserved
 loop-j-preserved c =
@@ -37,6 +28,6 @@ returns-after-j-saw c =
     let e : k.j + 1 - 1 ≡ a.n = omega arith in
     winner_first a.saw a.turn a.n c.enter.ensures
     (rw (← e) (elim c.if-j-saw.branch [
-        | then-j-saw w ↦ one_waits c.enter.new.self a.saw a.turn k.j _ _ _ k.auto.j (omega (arith, c.requires.1.0)) k.invariant.1 w.if-j-saw.true w.enter-then-j-saw.ensures w.self-is
-        | else-j-saw w ↦ one_less c.enter.new.self a.saw a.turn k.j _ _ k.auto.j (omega (arith, c.requires.1.0)) k.invariant.1 w.if-j-saw.false w.self-is
-      ]))
+      | then-j-saw w ↦ one_waits c.enter.new.self a.saw a.turn k.j _ _ _ k.auto.j (omega (arith, c.requires.1.0)) k.invariant.1 w.if-j-saw.true w.enter-then-j-saw.ensures w.self-is
+      | else-j-saw w ↦ one_less c.enter.new.self a.saw a.turn k.j _ _ k.auto.j (omega (arith, c.requires.1.0)) k.invariant.1 w.if-j-saw.false w.self-is
+    ]))

@@ -77,8 +77,7 @@ slice_bounds-fill-count c =
 pub slice_bounds-fill-start : goal.slice_bounds-fill-start
 slice_bounds-fill-start c =
     let room : c.drive-d.result.tally.listed ≤ 1025 = few_listed c.drive-d.ensures.fits in
-    let here : 4100 + c.drive-d.result.tally.listed ≤ length c.drive-d.new.row = omega (arith, room, c.drive-d.ensures.fits.places) in
-    here
+    omega (arith, room, c.drive-d.ensures.fits.places)
 
 pub overflow_cast-result : goal.overflow_cast-result
 overflow_cast-result c =

@@ -1,22 +1,18 @@
 -- The run is made in the front of the row.
 use mathlib.Core.Path.{◌≡◌, ◌∙◌, sym, ap}
-use native.Mathlib.Omega.{arith}
 use Prim.Native.Nat.{ℕ, ◌<◌}
 use lib.ListN.{length, get_or}
 use lib.Seq.{length-take-le}
 use borrow.Author.Rules.{rules}
 use Rattle.std.proofs.lemmas.Result.{err_from_is_err_and}
 use Rattle.run.specs.Row.{row_places, zero_row}
-use Rattle.run.proofs.Traces.{all_zeros, refused, too_short, long_enough}
+use Rattle.run.proofs.Traces.{all_zeros, refused, long_enough}
 use Rattle.run.proofs.tracing.traced.Goals as goal
 
 pub returns-in_err-contents : goal.returns-in_err-contents
 returns-in_err-contents c =
     let p = err_from_is_err_and c.from_residual.result c.from_residual.ensures.1 in
     rw (p.1, p.2) (refused c.args.file.now c.args.row.now c.in_err-contents.field-0.0 c.in_err-contents.ensures)
-
-pub returns-then-row-lt-PLACES : goal.returns-then-row-lt-PLACES
-returns-then-row-lt-PLACES c = too_short c.args.file.now c.args.row.now (sym (ap (λ r. r.refused) c.in_ok-contents.ensures)) c.if-row-lt-PLACES.true
 
 -- the front is filled with zeros
 pub ran-requires : goal.ran-requires
