@@ -1,7 +1,6 @@
 // The report of a file: its run's sheet, or its refusal.
 ghost use Rattle.std.specs.Prelude.{◌≡◌, ◌≤◌, leb, length};
 ghost use Rattle.rules.specs.Reason.{numbers};
-ghost use Rattle.run.specs.Row.{row_places};
 ghost use Rattle.run.specs.Trace.{book_of};
 ghost use Rattle.lines.specs.Lines.{sheet_text};
 ghost use Rattle.sheet.specs.Report.{ReportedTo, AlwaysEnough, ReportSettled};
@@ -19,24 +18,17 @@ fn has_room(room: usize, t: Trace, table: &[u8], row: &[u32]) -> bool
     40960 <= room || put_sheet(&mut [0u8; 1], t, table, row) <= room
 }
 
-// The report with a row for the run's book.
-fn report_by(file: &[u8], row: &mut [u32], out: &mut [u8]) -> Result<usize, Reason>
-    requires { length row.old ≡ row_places }
-    ensures { ReportedTo file.now out.old (numbers result) out.new }
-{
-    let t = run::traced(file, row)?;
-    let table = part(file, 0, 12 * t.calls);
-    if !has_room(out.len(), t, table, row) {
-        return Err(Reason::Room);
-    }
-    Ok(put_sheet(out, t, table, row))
-}
-
 // Writes the report of a file that reads well to the front of the buffer, and tells its length; refused, it leaves the buffer as it was.
 pub fn report(file: &[u8], out: &mut [u8]) -> Result<usize, Reason>
     ensures { ReportedTo file.now out.old (numbers result) out.new }
 {
-    report_by(file, &mut [0u32; PLACES], out)
+    let mut row = [0u32; PLACES];
+    let t = run::traced(file, &mut row)?;
+    let table = part(file, 0, 12 * t.calls);
+    if !has_room(out.len(), t, table, &row) {
+        return Err(Reason::Room);
+    }
+    Ok(put_sheet(out, t, table, &row))
 }
 
 // A buffer of 40,960 bytes is always enough.
