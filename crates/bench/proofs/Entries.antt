@@ -1,10 +1,13 @@
--- The test of the entries, one more at a time: one that fails fails them all, and where all hold each holds. Assumes nothing.
-use mathlib.Core.Path.{◌≡◌, refl, ap}
+-- The test of the entries, one more at a time: each by itself says the same as all in a row, and where all hold each holds. Assumes nothing.
+use mathlib.Core.Path.{◌≡◌, refl, ◌∙◌, sym, ap}
 use mathlib.Core.Logic.{⊎_elim}
-use mathlib.Core.Bool.{Bool, true, false, ◌&&◌}
-use Prim.Native.Nat.{ℕ, zero, suc, ◌<◌}
-use native.Mathlib.Nat.{le_refl, le_step, le_of_suc-le-suc, not-suc-le-zero, eq-or-lt_of_le}
+use mathlib.Core.Bool.{Bool, true, ◌&&◌, and-true, and_assoc}
+use Prim.Native.Nat.{ℕ, zero, suc, ◌+◌, ◌<◌}
+use native.Mathlib.Omega.{arith}
+use native.Mathlib.Numerals.{add-one}
+use native.Mathlib.Nat.{add-zero, zero-add, le_refl, le_step, le_of_suc-le-suc, not-suc-le-zero, eq-or-lt_of_le}
 use Rattle.rules.proofs.Facts.{and_left, and_right, and_both}
+use Rattle.std.specs.List.{list_all, range_with_len}
 use Rattle.bench.specs.declared.Bench.{Bench}
 use Rattle.bench.specs.Record.{station_at, a_at, r_at}
 use Rattle.bench.specs.Sound.{entry_kept, each_entry}
@@ -12,18 +15,19 @@ use Rattle.bench.specs.Sound.{entry_kept, each_entry}
 abbrev pub kept_at : ℕ → Bench → ℕ → Bool
 kept_at limit w i = entry_kept limit w.n i (a_at w i) (r_at w i) (station_at w i)
 
-and_fails : (a b : Bool) → b ≡ false → (a && b) ≡ false
-and_fails true b e = e
-and_fails false b e = refl
-
-pub one_fails : (limit : ℕ) (w : Bench) (i k : ℕ) → i < k → kept_at limit w i ≡ false → each_entry limit w k ≡ false
+-- entries 0 to i - 1, and then k more
+all_more : (limit : ℕ) (w : Bench) (i k : ℕ) → (each_entry limit w i && list_all (kept_at limit w) (range_with_len i k)) ≡ each_entry limit w (i + k)
 unfolding each_entry
-one_fails limit w i zero h e = absurd (not-suc-le-zero h)
-one_fails limit w i (suc k) h e =
-    ⊎_elim
-    (λ (q : i ≡ k). and_fails (each_entry limit w k) (kept_at limit w k) (rw q at e))
-    (λ (q : i < k). ap (λ x. x && kept_at limit w k) (one_fails limit w i k q e))
-    (eq-or-lt_of_le (le_of_suc-le-suc h))
+all_more limit w i zero = and-true (each_entry limit w i) ∙ ap (each_entry limit w) (sym (add-zero i))
+all_more limit w i (suc k) =
+    let rest = list_all (kept_at limit w) (range_with_len (i + 1) k) in
+    let e : (i + 1) + k ≡ i + suc k = omega arith in
+    sym (and_assoc (each_entry limit w i) (kept_at limit w i) rest)
+    ∙ ap (λ j. each_entry limit w j && rest) (sym (add-one i)) ∙ all_more limit w (i + 1) k ∙ ap (each_entry limit w) e
+
+pub all_tested : (limit : ℕ) (w : Bench) (k : ℕ) → list_all (kept_at limit w) (range_with_len 0 k) ≡ each_entry limit w k
+unfolding each_entry
+all_tested limit w k = all_more limit w 0 k ∙ ap (each_entry limit w) (zero-add k)
 
 pub each_holds : (limit : ℕ) (w : Bench) (i k : ℕ) → i < k → each_entry limit w k ≡ true → kept_at limit w i ≡ true
 unfolding each_entry

@@ -5,3 +5,4 @@ pub mod Kept
 pub mod Clear
 pub mod Promised
 pub mod Own
+pub mod InPlace

@@ -1,14 +1,16 @@
 // The bench: its registers and stations, and what a turn takes and hands back. A fresh bench is made here.
-// Its modules: sound (the test of a bench), turns (one turn of the bench).
+// Its modules: sound (the test of a bench), turns (one turn of a bench).
 #![tactic(auto)]
 
-ghost use Rattle.std.specs.Prelude.{◌≡◌};
+ghost use Rattle.std.specs.Prelude.{◌≡◌, true};
 ghost use Rattle.bench.specs.Record.{blank};
+ghost use Rattle.bench.specs.Sound.{sound};
 ghost use Rattle.bench.specs.Turn.{fresh_of};
 
 use card::{Claim, Halves};
-use method::{Answer, Call, Place, Station};
+use method::{Answer, Station};
 use reach::Reach;
+use rules::Reason;
 
 mod sound;
 mod turns;
@@ -24,6 +26,13 @@ pub struct Bench {
     pub stations: [Station; 33],
 }
 
+// A bench that is sound, so that no turn of it tests that. A run keeps one and turns it where it is.
+#[derive(Clone, Copy)]
+pub struct SoundBench {
+    pub bench: Bench,
+    pub ghost is_sound: { sound bench ≡ true },
+}
+
 // What a turn hands back.
 #[derive(Clone, Copy)]
 pub struct Turned {
@@ -31,7 +40,7 @@ pub struct Turned {
     pub bench: Bench,
 }
 
-// What the making of a fresh bench hands back: refused is 3, or 0.
+// What the making of a fresh bench hands back: refused is 3, or 0. It is a number, since `fresh_of` tells it, and a refusal hands back a bench too.
 #[derive(Clone, Copy)]
 pub struct Made {
     pub refused: u32,
@@ -52,55 +61,33 @@ impl Bench {
     fn blank(x: u32, n: u32) -> Bench
         ensures { result ≡ blank x n }
     {
-        let zero = Halves {
-            first: 0,
-            second: 0,
-        };
-        let v = Halves {
-            first: 0,
-            second: x,
-        };
-        let p = Claim {
-            seq: 0,
-            pid: 0,
-            c: 0,
-        };
-        let call = Call {
-            kind: 0,
-            a: 0,
-            b: 0,
-        };
-        let station = Station {
-            place: Place::Rest,
-            call,
-            s: 0,
-            own: 0,
-            c: 0,
-            saw: p,
-            entry: zero,
-        };
-        let a = [zero; 33];
-        let r = [zero; 33];
-        let stations = [station; 33];
         Bench {
             n,
-            v,
-            p,
-            a,
-            r,
-            stations,
+            v: Halves {
+                first: 0,
+                second: x,
+            },
+            p: Claim::default(),
+            a: [Halves::default(); 33],
+            r: [Halves::default(); 33],
+            stations: [Station::default(); 33],
         }
     }
 
     // A fresh bench of n stations with the starting value x; refused, a bench of all zeros.
+    #[tactic(auto, unfolding(crate::specs::Turn::fresh_of))]
     pub fn fresh(x: u32, n: u32) -> Made
         ensures { result ≡ fresh_of x n }
     {
         if (n == 0) | (Self::STATIONS < n) {
-            let bench = Self::blank(0, 0);
-            return Made { refused: 3, bench };
+            return Made {
+                refused: Reason::Stations.number(),
+                bench: Self::blank(0, 0),
+            };
         }
-        let bench = Self::blank(x, n);
-        Made { refused: 0, bench }
+        Made {
+            refused: 0,
+            bench: Self::blank(x, n),
+        }
     }
 }

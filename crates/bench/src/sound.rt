@@ -1,151 +1,149 @@
 // The test of a sound bench, sentence by sentence. It assumes nothing of the bench.
-ghost use Rattle.std.specs.Prelude.{◌≡◌};
+ghost use Rattle.std.specs.Prelude.{◌≡◌, ◌<◌, not, ◌||◌};
 ghost use Rattle.rules.specs.Test.{passes, pass, all_kept};
-ghost use Rattle.bench.specs.Sound.{unread, zero_but_count, own_turns, called, agreed, zero_halves, a_rules, r_rules, rules_of, entry_kept, each_entry, head_rules, sound};
+ghost use Rattle.reach.specs.Step.{count_limit};
+ghost use Rattle.bench.specs.Record.{a_at, r_at, station_at};
+ghost use Rattle.bench.specs.Sound.{unread, zero_but_count, fresh_station, own_turns, called, agreed, zero_halves, a_rules, r_rules, rules_of, entry_kept, each_entry, head_rules, sound};
 
 use crate::Bench;
-use card::Halves;
+use card::{Claim, Halves};
 use method::{Place, Station};
+
+// What is asked under a condition alone.
+fn given(condition: bool, asked: bool) -> bool
+    ensures { result ≡ (not condition || asked) }
+{
+    !condition | asked
+}
 
 fn zero(e: Halves) -> bool
     ensures { result ≡ pass (zero_halves e) }
 {
-    (e.first == 0) & (e.second == 0)
+    e == Halves::default()
 }
 
 fn unread(t: Station) -> bool
     ensures { result ≡ pass (unread t) }
 {
-    (t.saw.seq == 0)
-        & ((t.saw.pid == 0) & ((t.saw.c == 0) & ((t.entry.first == 0) & (t.entry.second == 0))))
+    t.saw == Claim::default() && zero(t.entry)
 }
 
 fn zero_but_count(t: Station) -> bool
     ensures { result ≡ pass (zero_but_count t) }
 {
-    let own = t.own;
-    let call = t.call;
-    let s = t.s;
-    (own == 0) & ((call.kind == 0) & ((call.a == 0) & ((call.b == 0) & ((s == 0) & unread(t)))))
+    let fresh = Station {
+        place: t.place,
+        c: t.c,
+        ..Station::default()
+    };
+    t == fresh
+}
+
+fn fresh(t: Station) -> bool
+    ensures { result ≡ pass (fresh_station t.place t) }
+{
+    t == Station::default()
 }
 
 fn own_turns(t: Station) -> bool
     ensures { result ≡ passes (own_turns t.place t.own) }
 {
-    let own = t.own;
-    let place = t.place;
-    match place {
-        Place::Rest => own == 0,
-        Place::At11 => own == 1,
-        Place::At12 => own == 2,
-        Place::At13 => own == 3,
-        Place::At14 => own == 4,
-        Place::At15 => own == 5,
-        Place::At16 => own == 6,
-        Place::At18 => own == 7,
-        Place::At19 => own == 8,
-        Place::At20 => (own == 7) | (own == 9),
+    match t.place {
+        Place::Rest => t.own == 0,
+        Place::At11 => t.own == 1,
+        Place::At12 => t.own == 2,
+        Place::At13 => t.own == 3,
+        Place::At14 => t.own == 4,
+        Place::At15 => t.own == 5,
+        Place::At16 => t.own == 6,
+        Place::At18 => t.own == 7,
+        Place::At19 => t.own == 8,
+        Place::At20 => t.own == 7 || t.own == 9,
     }
 }
 
-fn called(t: Station, limit: u32, n: u32) -> bool
-    ensures { result ≡ pass (called limit n t) }
+fn called(t: Station, n: u32) -> bool
+    ensures { result ≡ pass (called count_limit n t) }
 {
-    ((t.call.kind == 1) | (t.call.kind == 2))
-        & ((t.call.a != t.call.b)
-            & ((t.s % 2 == 0)
-                & ((t.s <= Bench::VERSION)
-                    & ((t.saw.pid <= n) & ((t.saw.c <= limit) & (t.entry.first <= limit))))))
+    (t.call.kind == 1 || t.call.kind == 2)
+        && t.call.a != t.call.b
+        && t.s % 2 == 0
+        && t.s <= Bench::VERSION
+        && t.saw.pid <= n
+        && t.saw.c <= Bench::COUNT
+        && t.entry.first <= Bench::COUNT
 }
 
 fn agreed(t: Station) -> bool
     ensures { result ≡ pass (agreed t) }
 {
-    (t.saw.seq % 2 == 0) & (t.saw.c == t.entry.first)
+    t.saw.seq % 2 == 0 && t.saw.c == t.entry.first
 }
 
-fn station_ok(t: Station, limit: u32, n: u32, i: u32) -> bool
-    ensures { result ≡ all_kept (rules_of limit n i t) }
+fn station_ok(t: Station, n: u32, i: u32) -> bool
+    ensures { result ≡ all_kept (rules_of count_limit n i t) }
 {
-    let c = t.c;
-    let entry = t.entry;
-    let place = t.place;
-    let k = place.number();
+    let k = t.place.number();
     let zero_but_count = zero_but_count(t);
-    let own_turns = own_turns(t);
-    let called = called(t, limit, n);
-    let unread = unread(t);
-    let unread_entry = zero(entry);
-    let agreed = agreed(t);
-    let fresh = (c == 0) & ((k == 0) & zero_but_count);
-    (c <= limit)
-        & ((!(n < i) | fresh)
-            & ((!(i == 0) | fresh)
-                & ((!(k == 0) | zero_but_count)
-                    & (own_turns
-                        & ((!!(k == 0) | called)
-                            & ((!(k == 11) | (c < limit))
-                                & ((!((11 <= k) & (k <= 15)) | unread)
-                                    & ((!(k == 16) | unread_entry)
-                                        & (!((k == 18) | (k == 19)) | agreed)))))))))
+    let fresh = fresh(t);
+    t.c <= Bench::COUNT
+        && given(n < i, fresh)
+        && given(i == 0, fresh)
+        && given(k == 0, zero_but_count)
+        && own_turns(t)
+        && given(k != 0, called(t, n))
+        && given(k == 11, t.c < Bench::COUNT)
+        && given((11 <= k) & (k <= 15), unread(t))
+        && given(k == 16, zero(t.entry))
+        && given((k == 18) | (k == 19), agreed(t))
 }
 
-fn a_ok(limit: u32, n: u32, i: u32, a: Halves) -> bool
-    ensures { result ≡ all_kept (a_rules limit n i a) }
+fn a_ok(a: Halves, n: u32, i: u32) -> bool
+    ensures { result ≡ all_kept (a_rules count_limit n i a) }
 {
-    let first = a.first;
-    (first <= limit) & (!(n < i) | zero(a))
+    a.first <= Bench::COUNT && given(n < i, zero(a))
 }
 
-fn r_ok(limit: u32, n: u32, i: u32, r: Halves) -> bool
-    ensures { result ≡ all_kept (r_rules limit n i r) }
+fn r_ok(r: Halves, n: u32, i: u32) -> bool
+    ensures { result ≡ all_kept (r_rules count_limit n i r) }
 {
-    let first = r.first;
-    let second = r.second;
-    ((first <= limit) & (second <= 1)) & (!(n < i) | zero(r))
-}
-
-fn entry_ok(limit: u32, n: u32, i: u32, a: Halves, r: Halves, t: Station) -> bool
-    ensures { result ≡ entry_kept limit n i a r t }
-{
-    let a_ok = a_ok(limit, n, i, a);
-    let r_ok = r_ok(limit, n, i, r);
-    let t_ok = station_ok(t, limit, n, i);
-    a_ok & (r_ok & t_ok)
+    r.first <= Bench::COUNT && r.second <= 1 && given(n < i, zero(r))
 }
 
 impl Bench {
-    fn head_ok(self, limit: u32) -> bool
-        ensures { result ≡ all_kept (head_rules limit self) }
+    fn head_ok(&self) -> bool
+        ensures { result ≡ all_kept (head_rules count_limit self.now) }
     {
-        ((1 <= self.n) & (self.n <= Self::STATIONS))
-            & ((self.p.c <= limit) & ((self.v.first % 2 == 0) & (self.p.pid <= self.n)))
+        1 <= self.n
+            && self.n <= Self::STATIONS
+            && self.p.c <= Self::COUNT
+            && self.v.first % 2 == 0
+            && self.p.pid <= self.n
     }
 
-    fn entries_ok(self, limit: u32) -> bool
-        ensures { result ≡ each_entry limit self 33 }
+    // Entry i of A and R, and station i.
+    #[tactic(auto, unfolding(crate::specs::Sound::entry_kept))]
+    fn entry_ok(&self, i: u32) -> bool
+        requires { i < 33 }
+        ensures { result ≡ entry_kept count_limit self.now.n i (a_at self.now i) (r_at self.now i) (station_at self.now i) }
     {
-        let mut i: u32 = 0;
-        while i < 33 {
-            let at = i as usize;
-            let a = self.a[at];
-            let r = self.r[at];
-            let t = self.stations[at];
-            let n = self.n;
-            if !entry_ok(limit, n, i, a, r, t) {
-                return false;
-            }
-            i = i + 1;
-        }
-        true
+        let at = i as usize;
+        a_ok(self.a[at], self.n, i)
+            && r_ok(self.r[at], self.n, i)
+            && station_ok(self.stations[at], self.n, i)
+    }
+
+    fn entries_ok(&self) -> bool
+        ensures { result ≡ each_entry count_limit self.now 33 }
+    {
+        (0..33).all(|i| self.entry_ok(i))
     }
 
     // Whether this is a sound bench.
+    #[tactic(auto, unfolding(crate::specs::Sound::sound))]
     pub fn sound(self) -> bool
         ensures { result ≡ sound self }
     {
-        let head = self.head_ok(Self::COUNT);
-        let entries = self.entries_ok(Self::COUNT);
-        head & entries
+        self.head_ok() && self.entries_ok()
     }
 }

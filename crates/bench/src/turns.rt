@@ -1,71 +1,61 @@
 // One turn of the bench: its refusals 9 and 10, and then the station's move on what the turn reaches, with 11 to 13.
-ghost use Rattle.std.specs.Prelude.{◌≡◌, true, ◌<◌};
-ghost use Rattle.bench.specs.Record.{station_at, on_bench};
-ghost use Rattle.bench.specs.Sound.{sound};
+ghost use Rattle.std.specs.Prelude.{◌≡◌};
+ghost use Rattle.bench.specs.Record.{turned};
 ghost use Rattle.bench.specs.Turn.{turn_of};
-ghost use Rattle.reach.specs.Step.{step_on};
 
-use crate::{Bench, Turned};
-use method::Answer;
+use crate::{Bench, SoundBench, Turned};
+use method::{Answer, Call};
 use reach::{Reach, reaches};
+use rules::Reason;
 
-impl Bench {
-    // A turn of a good station on a sound bench. The move refuses what the turn refuses of the offer.
-    pub(crate) fn stepped(mut self, i: u32, kind: u32, a: u32, b: u32) -> Turned
-        requires { (i < 33) × (sound self ≡ true) }
-        ensures { result ≡ step_on on_bench self i (station_at self i) kind a b }
+impl SoundBench {
+    // One turn, which changes the bench where it is. Refused, nothing changes.
+    #[tactic(auto, using(crate::proofs::InPlace::inside, crate::proofs::InPlace::reached), unfolding(crate::specs::Turn::turn_of))]
+    pub fn turn(&mut self, station: u32, offer: Call) -> Answer
+        ensures { turned result self.new.bench ≡ turn_of self.old.bench station offer.kind offer.a offer.b }
     {
-        let at = i as usize;
-        let t = self.stations[at];
-        let to = reaches(t, i) as usize;
-        let v = self.v;
-        let p = self.p;
-        let ea = self.a[to];
-        let er = self.r[to];
-        let g = Reach {
-            id: i,
-            v,
-            p,
-            a: ea,
-            r: er,
+        let n = self.bench.n;
+        if (station == 0) | (n < station) {
+            return Answer::Refused(Reason::Station.number());
+        }
+        let at = station as usize;
+        let t = self.bench.stations[at];
+        let to = reaches(t, station) as usize;
+        let taken = Reach {
+            id: station,
+            v: self.bench.v,
+            p: self.bench.p,
+            a: self.bench.a[to],
+            r: self.bench.r[to],
             station: t,
         };
-        let m = g.moved(kind, a, b);
-        let h = m.reach;
-        let hv = h.v;
-        let hp = h.p;
-        let ha = h.a;
-        let hr = h.r;
-        let ht = h.station;
-        self.v = hv;
-        self.p = hp;
-        self.a[to] = ha;
-        self.r[to] = hr;
-        self.stations[at] = ht;
-        let answer = m.answer;
-        Turned {
-            answer,
-            bench: self,
-        }
+        let m = taken.moved(offer);
+        self.bench.v = m.reach.v;
+        self.bench.p = m.reach.p;
+        self.bench.a[to] = m.reach.a;
+        self.bench.r[to] = m.reach.r;
+        self.bench.stations[at] = m.reach.station;
+        m.answer
     }
+}
 
+impl Bench {
     // One turn: the bench goes in and comes back. A refused turn hands back the bench given.
-    pub fn turn(mut self, station: u32, kind: u32, a: u32, b: u32) -> Turned
-        ensures { result ≡ turn_of self station kind a b }
+    #[tactic(auto, unfolding(crate::specs::Turn::turn_of))]
+    pub fn turn(self, station: u32, offer: Call) -> Turned
+        ensures { result ≡ turn_of self station offer.kind offer.a offer.b }
     {
         if !self.sound() {
             return Turned {
-                answer: Answer::Refused(9),
+                answer: Answer::Refused(Reason::Unsound.number()),
                 bench: self,
             };
         }
-        let n = self.n;
-        if (station == 0) | (n < station) {
-            return Turned {
-                answer: Answer::Refused(10),
-                bench: self,
-            };
+        let mut w = SoundBench { bench: self };
+        let answer = w.turn(station, offer);
+        Turned {
+            answer,
+            bench: w.bench,
         }
-        self.stepped(station, kind, a, b)
     }
 }

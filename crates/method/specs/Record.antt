@@ -1,10 +1,11 @@
 -- A station's record and a turn's answer. Assumes nothing.
-use Rattle.std.specs.Prelude.{Bool, ℕ, eqb}
+use Rattle.std.specs.Prelude.{◌≡◌, Bool, ℕ, eqb, Result, MatchResult}
 use Rattle.card.specs.declared.Halves.{Halves}
 use Rattle.card.specs.declared.Claim.{Claim}
 use Rattle.card.specs.Register.{halves, claim}
 use Rattle.method.specs.declared.Place.{Place}
 use Rattle.method.specs.declared.Place.TheVariants.{Rest, At11, At12, At13, At14, At15, At16, At18, At19, At20}
+use Rattle.method.specs.declared.NoPlace.{NoPlace}
 use Rattle.method.specs.declared.Call.{Call}
 use Rattle.method.specs.declared.Station.{Station}
 use Rattle.method.specs.declared.Answer.{Answer}
@@ -22,6 +23,10 @@ num At16 = 16
 num At18 = 18
 num At19 = 19
 num At20 = 20
+
+-- what a number names: the place with this number, or an error where no place has it
+abbrev pub Names : ℕ → Result Place NoPlace → Type 0
+Names x r = MatchResult r (λ p. num p ≡ x) (λ e. (p : Place) → num p ≡ x → ⊥)
 
 abbrev pub at_rest : Place → Bool
 at_rest p = eqb (num p) 0

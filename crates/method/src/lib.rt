@@ -4,13 +4,14 @@
 
 ghost use Rattle.std.specs.Prelude.{◌≡◌};
 ghost use Rattle.method.specs.Promise.{EveryRunIsGood};
-ghost use Rattle.method.specs.Record.{num};
+ghost use Rattle.method.specs.Record.{num, Names};
 
 use card::{Claim, Halves};
 
 // Where a station stands: at rest, or before the operation of 001's line of that number.
-#[derive(Clone, Copy)]
+#[derive(Clone, Copy, PartialEq, Eq, Default)]
 pub enum Place {
+    #[default]
     Rest,
     At11,
     At12,
@@ -23,8 +24,12 @@ pub enum Place {
     At20,
 }
 
-// Kind 1 is set, 2 is swap.
-#[derive(Clone, Copy)]
+// A number that is no place's.
+#[derive(Clone, Copy, PartialEq, Eq)]
+pub struct NoPlace;
+
+// Kind 0 is read, 1 set, 2 swap and 3 none. The kind stays a number: refusal 11 is about kinds over 3, so an offer may hold any.
+#[derive(Clone, Copy, PartialEq, Eq, Default)]
 pub struct Call {
     pub kind: u32,
     pub a: u32,
@@ -32,7 +37,7 @@ pub struct Call {
 }
 
 // s is the version that place 5 read, saw what place 15 read of P, entry what place 16 read of A[saw.pid].
-#[derive(Clone, Copy)]
+#[derive(Clone, Copy, PartialEq, Eq, Default)]
 pub struct Station {
     pub place: Place,
     pub call: Call,
@@ -43,7 +48,7 @@ pub struct Station {
     pub entry: Halves,
 }
 
-#[derive(Clone, Copy)]
+#[derive(Clone, Copy, PartialEq, Eq)]
 pub enum Answer {
     Idle,
     Going,
@@ -71,7 +76,31 @@ impl Place {
     }
 }
 
+// The place with this number; an error where no place has it.
+impl TryFrom<u32> for Place {
+    type Error = NoPlace;
+
+    ghost try_from_gives = { Names };
+
+    fn try_from(number: u32) -> Result<Self, NoPlace> {
+        match number {
+            0 => Ok(Place::Rest),
+            11 => Ok(Place::At11),
+            12 => Ok(Place::At12),
+            13 => Ok(Place::At13),
+            14 => Ok(Place::At14),
+            15 => Ok(Place::At15),
+            16 => Ok(Place::At16),
+            18 => Ok(Place::At18),
+            19 => Ok(Place::At19),
+            20 => Ok(Place::At20),
+            _ => Err(NoPlace),
+        }
+    }
+}
+
 // Every run, of any number of stations on any words, behaves as the words served one call at a time.
+#[tactic(auto, using(crate::proofs::Inv::every_run_is_good))]
 pub fn every_run_is_good()
     ensures { EveryRunIsGood }
 {}

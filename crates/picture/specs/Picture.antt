@@ -33,7 +33,7 @@ picture_refusals w room = refusal 9 (not (sound w)) ∷ refusal 14 (ltb room (pi
 unfoldable pub drawing_of : Bench → ℕ → Numbers
 drawing_of w room =
     let number = refusal_of (picture_refusals w room) in
-    cond (eqb number 0) (record { refused = 0; len = picture_size w }) (record { refused = number; len = 0 })
+    cond (eqb number 0) (record { refused = 0; k = 0; len = picture_size w }) (record { refused = number; k = 0; len = 0 })
 
 -- the buffer afterwards: refused, no byte changes; else just the output's bytes do
 unfoldable pub drawn_on : Bench → List ℕ → List ℕ

@@ -4,7 +4,7 @@ use mathlib.Core.List.{[], ◌∷◌}
 use mathlib.Core.Bool.{Bool, true, false, cond, not, ◌&&◌, ◌||◌}
 use Prim.Native.Nat.{ℕ, zero, suc, ◌≤◌}
 use native.Mathlib.Omega.{arith}
-use borrow.Author.Tests.{ltb-false}
+use borrow.Author.Tests.{ltb-false, eq-eqb, ne_eqb, lt-ltb, le-ltb}
 use lib.Dec.{eqb, ltb}
 use Rattle.rules.specs.Refusal.{refusal, refusal_of}
 use Rattle.rules.proofs.Facts.{or_none}
@@ -49,3 +49,6 @@ module _ {W Out : Type 0} (on : Access W Out) (w : W) (i : ℕ) (t : Station) (k
   unfolding step_of row
   rest_law good =
       rw (good, set_or_swap kind (known kind a b good)) (in_order (eqb kind 3) (eqb kind 0) (eqb t.c count_limit) (ltb version_limit (on.v w i).first))
+
+-- what a move at rest is proved by
+pub ruleset at_rest = (rest_law, eq-eqb, ne_eqb, lt-ltb, le-ltb)

@@ -10,7 +10,7 @@ mod moves;
 pub use moves::reaches;
 
 // What one turn of station id can reach: V, P, the one entry of A and of R, and the station's record.
-#[derive(Clone, Copy)]
+#[derive(Clone, Copy, PartialEq, Eq)]
 pub struct Reach {
     pub id: u32,
     pub v: Halves,
@@ -21,7 +21,7 @@ pub struct Reach {
 }
 
 // What a move hands back.
-#[derive(Clone, Copy)]
+#[derive(Clone, Copy, PartialEq, Eq)]
 pub struct Moved {
     pub answer: Answer,
     pub reach: Reach,

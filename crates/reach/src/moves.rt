@@ -1,15 +1,24 @@
 // One station's operation, on what one turn can reach. Small values are moved here, and not the bench, so that a turn costs little.
-// The move of a place assumes that its station's numbers can grow without wrapping (`Ready`); `Reach::moved` tests that.
-ghost use Rattle.std.specs.Prelude.{◌≡◌, false};
-ghost use Rattle.method.specs.Record.{resting};
-ghost use Rattle.method.specs.Table.{handed, begun, sees, after16, row5, row11, row12, row13, row14, row15, row16, row18, row19, row20};
+// The move of a place wants its station's numbers able to grow (`Movable`); `Reach::moved` tests that.
+ghost use Rattle.std.specs.Prelude.{◌≡◌, ◌<◌, false};
+ghost use Rattle.rules.specs.Reason.{number_of};
+ghost use Rattle.method.specs.Table.{handed, goes, after16, row5, row11, row12, row13, row14, row15, row16, row18, row19, row20};
 ghost use Rattle.reach.specs.Step.{bad_offer, step_of, step_on};
-ghost use Rattle.reach.specs.Reach.{Ready, ready, reaching, on_reach, move_of};
+ghost use Rattle.reach.specs.Reach.{Ready, ready, reaching, on_reach, moved, move_of};
 ghost use Rattle.method.specs.declared.Place.TheVariants.{Rest};
+ghost use Rattle.method.specs.declared.Answer.TheVariants.{Going, Refused};
 
 use crate::{Moved, Reach};
 use card::{Claim, Halves};
 use method::{Answer, Call, Place, Station};
+use rules::Reason;
+
+// What a turn reaches, where the station's numbers can grow without wrapping.
+#[derive(Clone, Copy)]
+struct Movable {
+    reach: Reach,
+    ghost ready: { Ready reach.station },
+}
 
 // What a set or a swap hands back.
 fn handed(kind: u32, truth: u32, read: u32) -> u32
@@ -21,7 +30,7 @@ fn handed(kind: u32, truth: u32, read: u32) -> u32
 fn after_16(saw: Claim, entry: Halves) -> Place
     ensures { result ≡ after16 saw entry }
 {
-    if (saw.seq % 2 == 0) & (saw.c == entry.first) {
+    if saw.seq % 2 == 0 && saw.c == entry.first {
         Place::At18
     } else {
         Place::At20
@@ -29,22 +38,13 @@ fn after_16(saw: Claim, entry: Halves) -> Place
 }
 
 // The entry of A and R that the turn of station i reaches: the saved pid's at 16 and 18, else its own.
+#[tactic(auto, unfolding(crate::specs::Reach::reaching))]
 pub fn reaches(t: Station, i: u32) -> u32
     ensures { result ≡ reaching t.place i t }
 {
-    let pid = t.saw.pid;
-    let place = t.place;
-    match place {
-        Place::Rest => i,
-        Place::At11 => i,
-        Place::At12 => i,
-        Place::At13 => i,
-        Place::At14 => i,
-        Place::At15 => i,
-        Place::At16 => pid,
-        Place::At18 => pid,
-        Place::At19 => i,
-        Place::At20 => i,
+    match t.place {
+        Place::At16 | Place::At18 => t.saw.pid,
+        _ => i,
     }
 }
 
@@ -52,83 +52,13 @@ pub fn reaches(t: Station, i: u32) -> u32
 fn ready(t: Station) -> bool
     ensures { result ≡ ready t }
 {
-    (t.own < 10) & ((t.c <= Reach::COUNT) & (t.s <= Reach::VERSION))
+    t.own < 10 && t.c <= Reach::COUNT && t.s <= Reach::VERSION
 }
 
-fn bad_offer(kind: u32, a: u32, b: u32) -> bool
-    ensures { result ≡ bad_offer kind a b }
+fn bad_offer(offer: Call) -> bool
+    ensures { result ≡ bad_offer offer.kind offer.a offer.b }
 {
-    (3 < kind) | (((kind == 0) | (kind == 3)) & ((a != 0) | (b != 0)))
-}
-
-// A station with the count c that has read the version s at place 5 and goes on.
-fn begun(call: Call, s: u32, c: u32) -> Station
-    ensures { result ≡ begun call s c }
-{
-    let saw = Claim {
-        seq: 0,
-        pid: 0,
-        c: 0,
-    };
-    let entry = Halves {
-        first: 0,
-        second: 0,
-    };
-    Station {
-        place: Place::At11,
-        call,
-        s,
-        own: 1,
-        c,
-        saw,
-        entry,
-    }
-}
-
-// A station at rest with the count c.
-fn resting(c: u32) -> Station
-    ensures { result ≡ resting c }
-{
-    let call = Call {
-        kind: 0,
-        a: 0,
-        b: 0,
-    };
-    let saw = Claim {
-        seq: 0,
-        pid: 0,
-        c: 0,
-    };
-    let entry = Halves {
-        first: 0,
-        second: 0,
-    };
-    Station {
-        place: Place::Rest,
-        call,
-        s: 0,
-        own: 0,
-        c,
-        saw,
-        entry,
-    }
-}
-
-// The station's record one own turn later, at the place.
-fn sees(t: Station, place: Place, saw: Claim, entry: Halves) -> Station
-    requires { Ready t }
-    ensures { result ≡ sees t place saw entry }
-{
-    let call = t.call;
-    Station {
-        place,
-        call,
-        s: t.s,
-        own: t.own + 1,
-        c: t.c,
-        saw,
-        entry,
-    }
+    3 < offer.kind || (offer.kind == 0 || offer.kind == 3) && (offer.a != 0 || offer.b != 0)
 }
 
 impl Reach {
@@ -137,247 +67,188 @@ impl Reach {
     // The largest version that a contest may start from.
     pub const VERSION: u32 = 4294967292;
 
-    fn move_5(mut self, kind: u32, a: u32, b: u32) -> Moved
-        ensures { result ≡ row5 on_reach self self.id self.station kind a b }
+    // The turn ends with the answer.
+    fn answers(self, answer: Answer) -> Moved
+        ensures { result ≡ moved answer self }
     {
-        let v = self.v;
-        let count = self.station.c;
-        if v.second != a {
-            let result = handed(kind, 0, v.second);
-            return Moved {
-                answer: Answer::Ended { result, own: 1 },
-                reach: self,
-            };
-        }
-        if a == b {
-            let result = handed(kind, 1, v.second);
-            return Moved {
-                answer: Answer::Ended { result, own: 1 },
-                reach: self,
-            };
-        }
-        let call = Call { kind, a, b };
-        let station = begun(call, v.first, count);
-        self.station = station;
         Moved {
-            answer: Answer::Going,
+            answer,
             reach: self,
         }
+    }
+
+    // The station goes on to the place, one own turn later.
+    fn goes(mut self, place: Place) -> Moved
+        requires { self.station.own < 10 }
+        ensures { result ≡ moved Going (on_reach.put_station self.id (goes self.station place) self) }
+    {
+        self.station.place = place;
+        self.station.own += 1;
+        self.answers(Answer::Going)
+    }
+
+    // Refused, and nothing moved.
+    fn refused(self, reason: Reason) -> Moved
+        ensures { result ≡ moved (Refused (number_of reason)) self }
+    {
+        self.answers(Answer::Refused(reason.number()))
+    }
+
+    fn move_5(mut self, offer: Call) -> Moved
+        ensures { result ≡ row5 on_reach self self.id self.station offer.kind offer.a offer.b }
+    {
+        if self.v.second != offer.a {
+            let result = handed(offer.kind, 0, self.v.second);
+            return self.answers(Answer::Ended { result, own: 1 });
+        }
+        if offer.a == offer.b {
+            let result = handed(offer.kind, 1, self.v.second);
+            return self.answers(Answer::Ended { result, own: 1 });
+        }
+        self.station = Station {
+            call: offer,
+            s: self.v.first,
+            c: self.station.c,
+            ..Station::default()
+        };
+        self.goes(Place::At11)
     }
 
     // A station at rest begins the offered call, or is refused 12 or 13.
-    fn move_rest(mut self, kind: u32, a: u32, b: u32) -> Moved
-        requires { bad_offer kind a b ≡ false }
-        ensures { result ≡ step_of on_reach Rest self self.id self.station kind a b }
+    #[tactic(auto, using(crate::proofs::Rest::at_rest))]
+    fn move_rest(self, offer: Call) -> Moved
+        requires { bad_offer offer.kind offer.a offer.b ≡ false }
+        ensures { result ≡ step_of on_reach Rest self self.id self.station offer.kind offer.a offer.b }
     {
-        let result = self.v.second;
-        let version = self.v.first;
-        let count = self.station.c;
-        if kind == 3 {
-            return Moved {
-                answer: Answer::Idle,
-                reach: self,
-            };
+        if offer.kind == 3 {
+            return self.answers(Answer::Idle);
         }
-        if kind == 0 {
-            return Moved {
-                answer: Answer::Ended { result, own: 1 },
-                reach: self,
-            };
+        if offer.kind == 0 {
+            let result = self.v.second;
+            return self.answers(Answer::Ended { result, own: 1 });
         }
-        if count == Self::COUNT {
-            return Moved {
-                answer: Answer::Refused(12),
-                reach: self,
-            };
+        if self.station.c == Self::COUNT {
+            return self.refused(Reason::Count);
         }
-        if Self::VERSION < version {
-            return Moved {
-                answer: Answer::Refused(13),
-                reach: self,
-            };
+        if Self::VERSION < self.v.first {
+            return self.refused(Reason::Version);
         }
-        self.move_5(kind, a, b)
+        self.move_5(offer)
     }
 
-    fn move_11(mut self) -> Moved
-        requires { Ready self.station }
-        ensures { result ≡ row11 on_reach self self.id self.station }
+    // One station's move. Refused 9, and nothing moved, where its numbers could wrap, as those of a sound bench cannot; then 11 to 13 as a turn is.
+    #[tactic(auto, unfolding(crate::specs::Reach::move_of, crate::specs::Step::step_of))]
+    pub fn moved(self, offer: Call) -> Moved
+        ensures { result ≡ move_of self offer.kind offer.a offer.b }
     {
-        let t = self.station;
-        let call = t.call;
-        let saw = t.saw;
-        let entry = t.entry;
-        let c = t.c + 1;
-        let a = Halves {
-            first: c,
-            second: call.b,
-        };
-        let station = Station {
-            place: Place::At12,
-            call,
-            s: t.s,
-            own: t.own + 1,
-            c,
-            saw,
-            entry,
-        };
-        self.a = a;
-        self.station = station;
-        Moved {
-            answer: Answer::Going,
-            reach: self,
+        if !ready(self.station) {
+            return self.refused(Reason::Unsound);
         }
+        if bad_offer(offer) {
+            return self.refused(Reason::Offer);
+        }
+        Movable { reach: self }.moves(offer)
     }
+}
 
-    fn move_12(mut self) -> Moved
-        requires { Ready self.station }
-        ensures { result ≡ row12 on_reach self self.id self.station }
+impl Movable {
+    fn move_11(self) -> Moved
+        ensures { result ≡ row11 on_reach self.reach self.reach.id self.reach.station }
     {
-        let t = self.station;
-        let saw = t.saw;
-        let entry = t.entry;
-        let r = Halves {
+        let mut reach = self.reach;
+        reach.station.c += 1;
+        let t = reach.station;
+        reach.a = Halves {
             first: t.c,
+            second: t.call.b,
+        };
+        reach.goes(Place::At12)
+    }
+
+    fn move_12(self) -> Moved
+        ensures { result ≡ row12 on_reach self.reach self.reach.id self.reach.station }
+    {
+        let mut reach = self.reach;
+        reach.r = Halves {
+            first: reach.station.c,
             second: 0,
         };
-        let station = sees(t, Place::At13, saw, entry);
-        self.r = r;
-        self.station = station;
-        Moved {
-            answer: Answer::Going,
-            reach: self,
-        }
+        reach.goes(Place::At13)
     }
 
-    fn move_13(mut self) -> Moved
-        requires { Ready self.station }
-        ensures { result ≡ row13 on_reach self self.id self.station }
+    fn move_13(self) -> Moved
+        ensures { result ≡ row13 on_reach self.reach self.reach.id self.reach.station }
     {
-        let t = self.station;
-        let saw = t.saw;
-        let entry = t.entry;
-        let p = self.p;
-        let q = p.max_write(t.s + 1, self.id, t.c);
-        let station = sees(t, Place::At14, saw, entry);
-        self.p = q;
-        self.station = station;
-        Moved {
-            answer: Answer::Going,
-            reach: self,
-        }
+        let mut reach = self.reach;
+        let t = reach.station;
+        reach.p = reach.p.max_write(t.s + 1, reach.id, t.c);
+        reach.goes(Place::At14)
     }
 
-    fn move_14(mut self) -> Moved
-        requires { Ready self.station }
-        ensures { result ≡ row14 on_reach self self.id self.station }
+    fn move_14(self) -> Moved
+        ensures { result ≡ row14 on_reach self.reach self.reach.id self.reach.station }
     {
-        let t = self.station;
-        let saw = t.saw;
-        let entry = t.entry;
-        let p = self.p;
-        let q = p.half_max(t.s + 2);
-        let station = sees(t, Place::At15, saw, entry);
-        self.p = q;
-        self.station = station;
-        Moved {
-            answer: Answer::Going,
-            reach: self,
-        }
+        let mut reach = self.reach;
+        reach.p = reach.p.half_max(reach.station.s + 2);
+        reach.goes(Place::At15)
     }
 
-    fn move_15(mut self) -> Moved
-        requires { Ready self.station }
-        ensures { result ≡ row15 on_reach self self.id self.station }
+    fn move_15(self) -> Moved
+        ensures { result ≡ row15 on_reach self.reach self.reach.id self.reach.station }
     {
-        let t = self.station;
-        let saw = self.p;
-        let entry = t.entry;
-        let station = sees(t, Place::At16, saw, entry);
-        self.station = station;
-        Moved {
-            answer: Answer::Going,
-            reach: self,
-        }
+        let mut reach = self.reach;
+        reach.station.saw = reach.p;
+        reach.goes(Place::At16)
     }
 
-    fn move_16(mut self) -> Moved
-        requires { Ready self.station }
-        ensures { result ≡ row16 on_reach self self.id self.station }
+    fn move_16(self) -> Moved
+        ensures { result ≡ row16 on_reach self.reach self.reach.id self.reach.station }
     {
-        let t = self.station;
-        let saw = t.saw;
-        let entry = self.a;
-        let place = after_16(saw, entry);
-        let station = sees(t, place, saw, entry);
-        self.station = station;
-        Moved {
-            answer: Answer::Going,
-            reach: self,
-        }
+        let mut reach = self.reach;
+        reach.station.entry = reach.a;
+        let place = after_16(reach.station.saw, reach.a);
+        reach.goes(place)
     }
 
-    fn move_18(mut self) -> Moved
-        requires { Ready self.station }
-        ensures { result ≡ row18 on_reach self self.id self.station }
+    fn move_18(self) -> Moved
+        ensures { result ≡ row18 on_reach self.reach self.reach.id self.reach.station }
     {
-        let t = self.station;
-        let saw = t.saw;
-        let entry = t.entry;
-        let r = self.r;
-        let q = r.max_write(entry.first, 1);
-        let station = sees(t, Place::At19, saw, entry);
-        self.r = q;
-        self.station = station;
-        Moved {
-            answer: Answer::Going,
-            reach: self,
-        }
+        let mut reach = self.reach;
+        reach.r = reach.r.max_write(reach.station.entry.first, 1);
+        reach.goes(Place::At19)
     }
 
-    fn move_19(mut self) -> Moved
-        requires { Ready self.station }
-        ensures { result ≡ row19 on_reach self self.id self.station }
+    fn move_19(self) -> Moved
+        ensures { result ≡ row19 on_reach self.reach self.reach.id self.reach.station }
     {
-        let t = self.station;
-        let saw = t.saw;
-        let entry = t.entry;
-        let v = self.v;
-        let q = v.max_write(saw.seq, entry.second);
-        let station = sees(t, Place::At20, saw, entry);
-        self.v = q;
-        self.station = station;
-        Moved {
-            answer: Answer::Going,
-            reach: self,
-        }
+        let mut reach = self.reach;
+        let t = reach.station;
+        reach.v = reach.v.max_write(t.saw.seq, t.entry.second);
+        reach.goes(Place::At20)
     }
 
-    fn move_20(mut self) -> Moved
-        requires { Ready self.station }
-        ensures { result ≡ row20 on_reach self self.id self.station }
+    fn move_20(self) -> Moved
+        ensures { result ≡ row20 on_reach self.reach self.reach.id self.reach.station }
     {
-        let t = self.station;
-        let r = self.r;
+        let mut reach = self.reach;
+        let t = reach.station;
+        let result = handed(t.call.kind, reach.r.second, t.call.a);
+        reach.station = Station {
+            c: t.c,
+            ..Station::default()
+        };
         let own = t.own + 1;
-        let result = handed(t.call.kind, r.second, t.call.a);
-        let station = resting(t.c);
-        self.station = station;
-        Moved {
-            answer: Answer::Ended { result, own },
-            reach: self,
-        }
+        reach.answers(Answer::Ended { result, own })
     }
 
     // The operation of the place where the station stands.
-    fn move_at(mut self, kind: u32, a: u32, b: u32) -> Moved
-        requires { Ready self.station × (bad_offer kind a b ≡ false) }
-        ensures { result ≡ step_on on_reach self self.id self.station kind a b }
+    #[tactic(auto, unfolding(crate::specs::Step::step_of, method::specs::Table::row))]
+    fn moves(self, offer: Call) -> Moved
+        requires { bad_offer offer.kind offer.a offer.b ≡ false }
+        ensures { result ≡ step_on on_reach self.reach self.reach.id self.reach.station offer.kind offer.a offer.b }
     {
-        let t = self.station;
-        let place = t.place;
-        match place {
-            Place::Rest => self.move_rest(kind, a, b),
+        match self.reach.station.place {
+            Place::Rest => self.reach.move_rest(offer),
             Place::At11 => self.move_11(),
             Place::At12 => self.move_12(),
             Place::At13 => self.move_13(),
@@ -388,25 +259,5 @@ impl Reach {
             Place::At19 => self.move_19(),
             Place::At20 => self.move_20(),
         }
-    }
-
-    // One station's move. Refused 9, and nothing moved, where its numbers could wrap, as those of a sound bench cannot; then 11 to 13 as a turn is.
-    pub fn moved(mut self, kind: u32, a: u32, b: u32) -> Moved
-        ensures { result ≡ move_of self kind a b }
-    {
-        let t = self.station;
-        if !ready(t) {
-            return Moved {
-                answer: Answer::Refused(9),
-                reach: self,
-            };
-        }
-        if bad_offer(kind, a, b) {
-            return Moved {
-                answer: Answer::Refused(11),
-                reach: self,
-            };
-        }
-        self.move_at(kind, a, b)
     }
 }

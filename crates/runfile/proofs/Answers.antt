@@ -1,47 +1,43 @@
 -- What the reader answers, from its verdict, and what a good answer says of the file. Assumes nothing.
 use mathlib.Core.Path.{◌≡◌, refl, ◌∙◌, sym, ap}
 use mathlib.Core.Bool.{false, cond}
-use mathlib.Core.List.{List, ◌++◌}
-use Prim.Native.Nat.{ℕ, ◌+◌, ◌*◌, ◌≤◌}
+use mathlib.Core.List.{List}
+use Prim.Native.Nat.{ℕ, ◌+◌, ◌*◌, ◌-◌, ◌≤◌}
 use native.Mathlib.Omega.{arith}
-use borrow.Author.Tests.{eq-eqb, ne_eqb, eqb-true, eqb-false, ltb-false, not-false}
+use borrow.Author.Tests.{ne_eqb, eqb-true, eqb-false, ltb-false, le-ltb, not-false}
 use lib.Dec.{eqb, ltb}
 use lib.ListN.{length}
-use Rattle.rules.specs.Row.{Verdict}
-use Rattle.rules.specs.Row.{verdict, verdict_of}
+use Rattle.std.specs.Prelude.{Ok, Err}
+use Rattle.rules.specs.Row.{Verdict, verdict, verdict_of}
+use Rattle.rules.specs.Reason.{number_of, k_of, verdict_in}
+use Rattle.rules.specs.declared.Reason.{Reason}
+use Rattle.rules.proofs.Reasons.{above, numbers_tell}
 use Rattle.rules.proofs.Facts.{either_way, or_none}
-use Rattle.rules.proofs.Rows.{Clear, clear, clear_front, clear_back, none_given, silent, chosen, stopped, passed}
+use Rattle.rules.proofs.Rows.{Clear, clear, clear_front, clear_back, none_given, silent, chosen}
+use Rattle.runfile.specs.declared.Contents.{Contents}
 use Rattle.runfile.specs.declared.Trailer.{Trailer}
-use Rattle.runfile.specs.Reading.{ReadAnswer}
-use Rattle.runfile.specs.Reading.{turn_count, agrees, trailer_at, number_rows, content_rows, trailer_rows, longest, bad_length, read_rows, no_run, run_by, read_by, read_of}
-use Rattle.runfile.specs.Promise.{TrailerPointsBack}
+use Rattle.runfile.specs.Layout.{part, trailer_of}
+use Rattle.runfile.specs.Reading.{ReadAnswer, turn_count, agrees, trailer_at, number_rows, content_rows, trailer_rows, longest, bad_length, read_rows, no_run, run_by, read_numbers, read_by, read_of}
+use Rattle.runfile.specs.Promise.{TrailerPointsBack, ReadsSettled}
 use Rattle.runfile.proofs.Limits.{within, Agreed, agreed}
 
--- the verdict on a file of form 1, from that on the trailer's numbers and that on the parts
-module _ (f : List ℕ) (z : Trailer) (form : z.form ≡ 1) (v : Verdict) (e : v ≡ verdict_of (number_rows f z)) where
-  past_form : verdict_of (trailer_rows f z) ≡ verdict_of (number_rows f z ++ content_rows f z)
-  past_form = rw (eq-eqb z.form 1 form)
-
-  pub numbers_refuse : (v.refused ≡ 0 → ⊥) → v ≡ verdict_of (trailer_rows f z)
-  numbers_refuse h = stopped (number_rows f z) (content_rows f z) refl e h ∙ sym past_form
-
-  pub parts_decide : v.refused ≡ 0 → (w : Verdict) → w ≡ verdict_of (content_rows f z) → w ≡ verdict_of (trailer_rows f z)
-  parts_decide h w d = d ∙ sym (past_form ∙ passed (number_rows f z) (content_rows f z) refl e h)
-
 -- the answer to a file with a trailer, from the verdict on it
-module _ (f : List ℕ) (h : bad_length f ≡ false) (z : Trailer) (y : z ≡ trailer_at f) (v : Verdict) (e : v ≡ verdict_of (trailer_rows f z)) where
-  judged : read_of f ≡ read_by z v
+module _ (f : List ℕ) (lo : 16 ≤ length f) (hi : length f ≤ longest) (z : Trailer) (y : z ≡ trailer_of (part f (length f - 16) (length f - (length f - 16)))) where
+  judged : (v : Verdict) → v ≡ verdict_of (trailer_rows f z) → read_of f ≡ read_by z v
   unfolding read_of
-  judged =
-      ap (λ b. read_by (trailer_at f) (cond b (verdict 1 0) (verdict_of (trailer_rows f (trailer_at f))))) h
-      ∙ ap (λ w. read_by w (verdict_of (trailer_rows f w))) (sym y)
+  judged v e =
+      let l : length f - (length f - 16) ≡ 16 = omega arith in
+      let t : z ≡ trailer_at f = y ∙ ap (λ k. trailer_of (part f (length f - 16) k)) l in
+      let b : bad_length f ≡ false = rw (le-ltb (length f) 16 lo, le-ltb longest (length f) hi) in
+      ap (λ b. read_by (trailer_at f) (cond b (verdict 1 0) (verdict_of (trailer_rows f (trailer_at f))))) b
+      ∙ ap (λ w. read_by w (verdict_of (trailer_rows f w))) (sym t)
       ∙ ap (read_by z) (sym e)
 
-  pub refuses : (v.refused ≡ 0 → ⊥) → no_run v.refused v.k ≡ read_of f
-  refuses g = sym (judged ∙ rw (ne_eqb v.refused 0 g))
+  pub refuses : (e : Reason) → verdict_in {A = Unit {0}} (Err e) ≡ verdict_of (trailer_rows f z) → read_numbers (Err e) ≡ read_of f
+  refuses e d = sym (judged (verdict (number_of e) (k_of e)) d ∙ rw (ne_eqb (number_of e) 0 (above e)))
 
-  pub gives : v.refused ≡ 0 → run_by z ≡ read_of f
-  gives g = sym (judged ∙ rw (eq-eqb v.refused 0 g))
+  pub gives : verdict 0 0 ≡ verdict_of (trailer_rows f z) → run_by z ≡ read_of f
+  gives d = sym (judged (verdict 0 0) d)
 
 -- what it says that nothing is refused in a file with this trailer
 pub record Good (f : List ℕ) (z : Trailer) : Type 0 where
@@ -104,6 +100,13 @@ inside f =
     let a = g.agree in
     record { table = omega arith; turns = omega arith })
 
+-- the table's bytes are no more than the file's
+pub table_fits : (f : List ℕ) (r : Contents) → read_numbers (Ok r) ≡ read_of f → 12 * r.q ≤ length f
+table_fits f r e =
+    let q : r.q ≡ (read_of f).q = ap (λ a. a.q) e in
+    let i = (inside f).table in
+    rw q (omega arith)
+
 pub points_back : TrailerPointsBack
 unfolding TrailerPointsBack
 points_back f e =
@@ -114,3 +117,14 @@ points_back f e =
     let a = g.agree in
     (omega arith, omega arith)) e in
     record { to_calls = b.0; to_turns = b.1 }
+
+-- what an answer of these numbers holds, where it is not refused
+held : ReadAnswer → Contents
+held a = record { x = a.x; n = a.n; q = a.q; t = a.t }
+
+pub reads_settled : ReadsSettled
+unfolding ReadsSettled held
+reads_settled (Ok r) (Ok s) e = ap (λ a. Ok (held a)) e
+reads_settled (Ok r) (Err d) e = absurd (above d (sym (ap (λ a. a.refused) e)))
+reads_settled (Err d) (Ok s) e = absurd (above d (ap (λ a. a.refused) e))
+reads_settled (Err d) (Err f) e = ap Err (numbers_tell.reasons d f (ap (λ a. a.refused) e) (ap (λ a. a.k) e))

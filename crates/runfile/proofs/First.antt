@@ -1,35 +1,16 @@
 -- The first index at which a test holds, an index at a time. Assumes nothing.
 use mathlib.Core.Path.{◌≡◌, refl, ◌∙◌, sym}
 use mathlib.Core.Logic.{◌⊎◌, inl, inr, ⊎_elim}
-use mathlib.Core.Bool.{Bool, true, false, cond, true≢false}
-use Prim.Native.Nat.{ℕ, zero, suc, ◌+◌, ◌-◌, ◌<◌, ◌≤◌}
+use mathlib.Core.Bool.{Bool, true, false, true≢false}
+use Prim.Native.Nat.{ℕ, zero, suc, ◌+◌, ◌-◌, ◌<◌}
 use native.Mathlib.Omega.{arith}
 use native.Mathlib.Nat.{add-zero, zero-add}
 use native.Mathlib.Numerals.{add-one}
 use borrow.Author.Count.{below_more}
 use Rattle.rules.proofs.Facts.{either_way}
-use Rattle.runfile.specs.First.{first_from, first_of}
+use Rattle.std.specs.Prelude.{Option, Some, None}
+use Rattle.runfile.specs.First.{first_from, first_of, Tells}
 use Rattle.runfile.specs.Promise.{First, Searched}
-
--- of m indices, i passed
-module _ (p : ℕ → Bool) (m i : ℕ) where
-  one_step : i < m → first_from p i (m - i) ≡ cond (p i) (i + 1) (first_from p (i + 1) (m - (i + 1)))
-  unfolding first_from
-  one_step h =
-      let e : m - i ≡ suc (m - (i + 1)) = omega arith in
-      rw (e, add-one)
-
-  pub first_hit : i < m → p i ≡ true → first_from p i (m - i) ≡ i + 1
-  first_hit h e = one_step h ∙ rw e
-
-  pub first_miss : i < m → p i ≡ false → first_from p i (m - i) ≡ first_from p (i + 1) (m - (i + 1))
-  first_miss h e = one_step h ∙ rw e
-
-  pub first_end : m ≤ i → first_from p i (m - i) ≡ 0
-  unfolding first_from
-  first_end h =
-      let e : m - i ≡ 0 = omega arith in
-      rw e
 
 -- the search: what it finds is the first of all where the indices below its start are passed
 module _ (p : ℕ → Bool) where
@@ -86,3 +67,16 @@ module _ (p : ℕ → Bool) where
           λ h. ⊎_elim (λ a. absurd (not_all m (first_of p m) a h)) (λ z. z.0) (whole m),
         );
       }
+
+-- what a search told that counts from 0, counted from 1; 0 where it found none
+abbrev pub place_of : Option ℕ → ℕ
+place_of None = 0
+place_of (Some k) = k + 1
+
+pub told : (p : ℕ → Bool) (m : ℕ) (r : Option ℕ) → Tells p m r → first_of p m ≡ place_of r
+told p m None h = (searched p m).none.1 h
+told p m (Some k) h =
+    let e : k + 1 - 1 ≡ k = omega arith in
+    let i = h.0 in
+    let f : First p m (k + 1) = record { some = omega arith; within = omega arith; holds = rw e h.1; before = rw e h.2 } in
+    (((searched p m).found (k + 1)).1 f).0

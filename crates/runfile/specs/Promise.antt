@@ -1,13 +1,15 @@
 -- What is promised of run files: what is written reads back, what reads well is written back, refusals are given exactly when they hold, and the writer's contract settles all. Assumes nothing.
-use Rattle.std.specs.Prelude.{◌≡◌, ◌↔◌, Bool, true, false, List, [], ◌++◌, ℕ, ◌+◌, ◌*◌, ◌-◌, ◌^◌, ◌<◌, ◌≤◌, length, take, drop}
+use Rattle.std.specs.Prelude.{◌≡◌, ◌↔◌, Bool, true, false, List, [], ◌++◌, ℕ, ◌+◌, ◌*◌, ◌-◌, ◌^◌, ◌<◌, ◌≤◌, length, take, drop, Result}
 use Rattle.octets.specs.Bytes.{AllBytes}
 use Rattle.rules.specs.Refusal.{refusal_of, holds_at, GivenExactly}
 use Rattle.rules.specs.Row.{Row, refusals}
-use Rattle.rules.specs.Reason.{Numbers}
+use Rattle.rules.specs.Reason.{Numbers, numbers}
+use Rattle.rules.specs.declared.Reason.{Reason}
 use Rattle.runfile.specs.First.{first_of}
 use Rattle.runfile.specs.declared.CallRecord.{CallRecord}
+use Rattle.runfile.specs.declared.Contents.{Contents}
 use Rattle.runfile.specs.Layout.{call_record, zero_byte, record_bytes, records}
-use Rattle.runfile.specs.Reading.{bad_call_at, bad_turn_at, trailer_at, table_by, turns_by, longest, read_rows, no_run, read_of, table_of, turns_of}
+use Rattle.runfile.specs.Reading.{bad_call_at, bad_turn_at, trailer_at, table_by, turns_by, longest, read_rows, no_run, read_numbers, read_of, table_of, turns_of}
 use Rattle.runfile.specs.Writing.{write_rows, wrote, write_of, Written}
 
 -- the numbers of a call fit their fields
@@ -105,5 +107,9 @@ pub record RefusedExactly : Type 0 where
 -- two answers with their buffers that the writer's contract allows for one input are the same
 unfoldable pub WriterSettled : Type 0
 WriterSettled =
-    (x n : ℕ) (table turns out : List ℕ) (answer answer' : Numbers) (after after' : List ℕ)
-    → Written x n table turns out answer after → Written x n table turns out answer' after' → (answer ≡ answer') × (after ≡ after')
+    (x n : ℕ) (table turns out : List ℕ) (r s : Result ℕ Reason) (after after' : List ℕ)
+    → Written x n table turns out (numbers r) after → Written x n table turns out (numbers s) after' → (r ≡ s) × (after ≡ after')
+
+-- the numbers of the reader's answer tell the answer
+unfoldable pub ReadsSettled : Type 0
+ReadsSettled = (r s : Result Contents Reason) → read_numbers r ≡ read_numbers s → r ≡ s

@@ -9,8 +9,7 @@ pub(crate) fn field(s: &[u8], a: usize, k: usize) -> u32
     requires { (a + k ≤ length s.now) × (k ≤ 4) }
     ensures { result ≡ field s.now a k }
 {
-    let e = a + k;
-    octets::number(&s[a..e]) as u32
+    octets::number(&s[a..a + k]) as u32
 }
 
 pub(crate) fn trailer_at(s: &[u8]) -> Trailer
@@ -40,19 +39,13 @@ pub(crate) fn record_at(s: &[u8]) -> CallRecord
 }
 
 // The call of number k of a table, from 1; all zero where the table has none of that number.
+#[tactic(auto, unfolding(crate::specs::Layout::call_of))]
 pub fn call_at(table: &[u8], k: usize) -> CallRecord
     ensures { result ≡ call_of table.now k }
 {
-    let q = table.len() / 12;
-    if (k == 0) | (q < k) {
-        return CallRecord {
-            station: 0,
-            kind: 0,
-            a: 0,
-            b: 0,
-        };
+    if k == 0 || table.len() / 12 < k {
+        return CallRecord::default();
     }
     let a = 12 * (k - 1);
-    let e = a + 12;
-    record_at(&table[a..e])
+    record_at(&table[a..a + 12])
 }

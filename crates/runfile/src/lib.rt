@@ -11,8 +11,8 @@ mod writing;
 
 pub use layout::call_at;
 pub use promises::{
-    buffer_is_enough, calls_are_spelled, read_writes_back, refused_exactly, trailer_points_back,
-    writer_is_settled, writes_only_output, written_reads_back,
+    buffer_is_enough, calls_are_spelled, read_writes_back, reads_are_settled, refused_exactly,
+    trailer_points_back, writer_is_settled, writes_only_output, written_reads_back,
 };
 pub use reading::{part, read, table, turns};
 pub use writing::write;

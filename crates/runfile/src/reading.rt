@@ -23,23 +23,22 @@ fn judged(file: &[u8], z: Trailer) -> Result<(), Reason>
     let q = z.q as usize;
     let t = z.second as usize;
     let first = z.first as usize;
-    let agree = (first == t + 12 * q) & (file.len() == 16 + first);
+    let agree = first == t + 12 * q && file.len() == 16 + first;
     limits(z.n, q, t, agree)?;
-    let a = 12 * q;
-    let e = a + t;
-    parts(z.n, &file[0..a], &file[a..e])
+    let (table, rest) = file.split_at(12 * q);
+    parts(z.n, table, &rest[..t])
 }
 
 // What the file holds, or its refusal.
+#[tactic(auto, unfolding(crate::specs::Reading::read_of))]
 pub fn read(file: &[u8]) -> Result<Contents, Reason>
     ensures { read_numbers result ≡ read_of file.now }
 {
     let len = file.len();
-    if (len < 16) | (LONGEST < len) {
+    if len < 16 || LONGEST < len {
         return Err(Reason::FileLength);
     }
-    let a = len - 16;
-    let z = trailer_at(&file[a..len]);
+    let z = trailer_at(&file[len - 16..]);
     judged(file, z)?;
     Ok(Contents {
         x: z.x,
@@ -53,15 +52,8 @@ pub fn read(file: &[u8]) -> Result<Contents, Reason>
 pub fn part(s: &[u8], at: usize, k: usize) -> &[u8]
     ensures { result.now ≡ part s.now at k }
 {
-    let len = s.len();
-    if len <= at {
-        return &s[len..len];
-    }
-    if len - at <= k {
-        return &s[at..len];
-    }
-    let e = at + k;
-    &s[at..e]
+    let rest = &s[at.min(s.len())..];
+    &rest[..k.min(rest.len())]
 }
 
 // The call table of a file, a part of it; empty for a refused one.

@@ -2,247 +2,186 @@
 // It builds benches by hand, sound ones and others, and prints what a turn answers and what it changed.
 #![tactic(auto)]
 
+ghost use Rattle.std.specs.Prelude.{◌<◌};
+
 use bench::Bench;
 use card::{Claim, Halves};
 use method::{Answer, Call, Place, Station};
-use octets::wide;
 use std::io;
 
-fn number(rt: &impl Print, x: u32) -> io::Result<()> {
-    print!(rt; " {x}")
-}
-
-fn end_line(rt: &impl Print) -> io::Result<()> {
-    println!(rt; "")
-}
-
 fn tell(rt: &impl Print, label: &str, answer: Answer) -> io::Result<()> {
-    print!(rt; "{label}")?;
     match answer {
-        Answer::Idle => {
-            print!(rt; ": idle")?;
-        }
-        Answer::Going => {
-            print!(rt; ": going")?;
-        }
-        Answer::Ended { result, own } => {
-            print!(rt; ": ended")?;
-            number(rt, result)?;
-            number(rt, own)?;
-        }
-        Answer::Refused(n) => {
-            print!(rt; ": refused")?;
-            number(rt, n)?;
-        }
+        Answer::Idle => println!(rt; "{label}: idle"),
+        Answer::Going => println!(rt; "{label}: going"),
+        Answer::Ended { result, own } => println!(rt; "{label}: ended {result} {own}"),
+        Answer::Refused(n) => println!(rt; "{label}: refused {n}"),
     }
-    end_line(rt)
 }
 
-fn made(rt: &impl Print, label: &str, x: u32, n: u32) -> io::Result<()> {
-    let m = Bench::fresh(x, n);
+fn made(rt: &impl Print, label: &str, n: u32) -> io::Result<()> {
+    let m = Bench::fresh(7, n);
     let w = m.bench;
-    let v = w.v;
-    print!(rt; "{label}: refused, n, V.val, sound")?;
-    number(rt, m.refused)?;
-    number(rt, w.n)?;
-    number(rt, v.second)?;
-    number(rt, w.sound() as u32)?;
-    end_line(rt)
+    println!(rt;
+        "{label}: refused, n, V.val, sound {} {} {} {}",
+        m.refused,
+        w.n,
+        w.v.second,
+        u32::from(w.sound())
+    )
 }
 
 // A fresh bench of two stations that holds 7.
 fn two() -> Bench {
-    let m = Bench::fresh(7, 2);
-    m.bench
+    Bench::fresh(7, 2).bench
 }
 
-// Station 1 at rest with the count c.
-fn with_count(c: u32) -> Bench {
+// A record at rest with the count c: station 1, or record 0, which belongs to no station.
+fn with_count(entry: usize, c: u32) -> Bench
+    requires { entry < 33 }
+{
     let mut w = two();
-    let mut t = w.stations[1];
-    t.c = c;
-    w.stations[1] = t;
-    w
-}
-
-// Record 0, which belongs to no station, with the count c.
-fn with_record_0(c: u32) -> Bench {
-    let mut w = two();
-    let mut t = w.stations[0];
-    t.c = c;
-    w.stations[0] = t;
+    w.stations[entry].c = c;
     w
 }
 
 fn with_version(seq: u32) -> Bench {
     let mut w = two();
-    let v = Halves {
-        first: seq,
-        second: 7,
-    };
-    w.v = v;
+    w.v.first = seq;
     w
 }
 
 // Station 1 at place 18 of a set 7 8, with the saved pid.
 fn at_18(pid: u32) -> Bench {
     let mut w = two();
-    let call = Call {
-        kind: 1,
-        a: 7,
-        b: 8,
-    };
-    let saw = Claim { seq: 2, pid, c: 0 };
-    let entry = Halves {
-        first: 0,
-        second: 8,
-    };
     w.stations[1] = Station {
         place: Place::At18,
-        call,
+        call: offer(1, 7, 8),
         s: 0,
         own: 7,
         c: 1,
-        saw,
-        entry,
+        saw: Claim { seq: 2, pid, c: 0 },
+        entry: Halves {
+            first: 0,
+            second: 8,
+        },
     };
     w
 }
 
-fn offer(
-    rt: &impl Print,
-    label: &str,
-    w: Bench,
-    station: u32,
-    kind: u32,
-    a: u32,
-    b: u32,
-) -> io::Result<()> {
-    let x = w.turn(station, kind, a, b);
-    let answer = x.answer;
-    tell(rt, label, answer)
+fn offer(kind: u32, a: u32, b: u32) -> Call {
+    Call { kind, a, b }
+}
+
+fn turn(rt: &impl Print, label: &str, w: Bench, station: u32, offer: Call) -> io::Result<()> {
+    tell(rt, label, w.turn(station, offer).answer)
 }
 
 fn fresh_benches(rt: &impl Print) -> io::Result<()> {
-    made(rt, "fresh, n 0", 7, 0)?;
-    made(rt, "fresh, n 1", 7, 1)?;
-    made(rt, "fresh, n 32", 7, 32)?;
-    made(rt, "fresh, n 33", 7, 33)
+    made(rt, "fresh, n 0", 0)?;
+    made(rt, "fresh, n 1", 1)?;
+    made(rt, "fresh, n 32", 32)?;
+    made(rt, "fresh, n 33", 33)
 }
 
 fn counts(rt: &impl Print) -> io::Result<()> {
-    offer(rt, "c 65,534, set 7 8", with_count(65534), 1, 1, 7, 8)?;
-    offer(rt, "c 65,535, set 7 8", with_count(65535), 1, 1, 7, 8)?;
-    offer(
-        rt,
-        "c 65,535, set 8 9, which would end at 5",
-        with_count(65535),
-        1,
-        1,
-        8,
-        9,
-    )?;
-    offer(rt, "c 65,535, swap 7 8", with_count(65535), 1, 2, 7, 8)?;
-    offer(rt, "c 65,535, read", with_count(65535), 1, 0, 0, 0)?;
-    offer(rt, "c 65,536, read", with_count(65536), 1, 0, 0, 0)
+    let cases = [
+        ("c 65,534, set 7 8", 65534, offer(1, 7, 8)),
+        ("c 65,535, set 7 8", 65535, offer(1, 7, 8)),
+        (
+            "c 65,535, set 8 9, which would end at 5",
+            65535,
+            offer(1, 8, 9),
+        ),
+        ("c 65,535, swap 7 8", 65535, offer(2, 7, 8)),
+        ("c 65,535, read", 65535, offer(0, 0, 0)),
+        ("c 65,536, read", 65536, offer(0, 0, 0)),
+    ];
+    for (label, c, offered) in cases {
+        turn(rt, label, with_count(1, c), 1, offered)?;
+    }
+    Ok(())
 }
 
 fn versions(rt: &impl Print) -> io::Result<()> {
-    offer(
-        rt,
-        "V.seq 4,294,967,292, set 7 8",
-        with_version(4294967292),
-        1,
-        1,
-        7,
-        8,
-    )?;
-    offer(
-        rt,
-        "V.seq 4,294,967,294, set 7 8",
-        with_version(4294967294),
-        1,
-        1,
-        7,
-        8,
-    )?;
-    offer(
-        rt,
-        "V.seq 4,294,967,294, read",
-        with_version(4294967294),
-        1,
-        0,
-        0,
-        0,
-    )?;
-    offer(
-        rt,
-        "V.seq 4,294,967,293, read",
-        with_version(4294967293),
-        1,
-        0,
-        0,
-        0,
-    )
+    let cases = [
+        ("V.seq 4,294,967,292, set 7 8", 4294967292, offer(1, 7, 8)),
+        ("V.seq 4,294,967,294, set 7 8", 4294967294, offer(1, 7, 8)),
+        ("V.seq 4,294,967,294, read", 4294967294, offer(0, 0, 0)),
+        ("V.seq 4,294,967,293, read", 4294967293, offer(0, 0, 0)),
+    ];
+    for (label, seq, offered) in cases {
+        turn(rt, label, with_version(seq), 1, offered)?;
+    }
+    Ok(())
 }
 
 fn stations(rt: &impl Print) -> io::Result<()> {
-    offer(rt, "station 0 of 2, read", two(), 0, 0, 0, 0)?;
-    offer(rt, "station 2 of 2, read", two(), 2, 0, 0, 0)?;
-    offer(rt, "station 3 of 2, read", two(), 3, 0, 0, 0)?;
-    offer(rt, "station 3 of 2, kind 4", two(), 3, 4, 0, 0)?;
-    offer(rt, "record 0 with c 1, read", with_record_0(1), 1, 0, 0, 0)
+    let cases = [
+        ("station 0 of 2, read", 0, offer(0, 0, 0)),
+        ("station 2 of 2, read", 2, offer(0, 0, 0)),
+        ("station 3 of 2, read", 3, offer(0, 0, 0)),
+        ("station 3 of 2, kind 4", 3, offer(4, 0, 0)),
+    ];
+    for (label, station, offered) in cases {
+        turn(rt, label, two(), station, offered)?;
+    }
+    turn(
+        rt,
+        "record 0 with c 1, read",
+        with_count(0, 1),
+        1,
+        offer(0, 0, 0),
+    )
 }
 
+// Every kind on offer to a station at rest, and kinds that come with no values.
 fn kinds(rt: &impl Print) -> io::Result<()> {
-    offer(rt, "kind 0", two(), 1, 0, 0, 0)?;
-    offer(rt, "kind 1, 7 8", two(), 1, 1, 7, 8)?;
-    offer(rt, "kind 1, 7 7", two(), 1, 1, 7, 7)?;
-    offer(rt, "kind 1, 8 7", two(), 1, 1, 8, 7)
-}
-
-fn more_kinds(rt: &impl Print) -> io::Result<()> {
-    offer(rt, "kind 2, 7 8", two(), 1, 2, 7, 8)?;
-    offer(rt, "kind 2, 8 7", two(), 1, 2, 8, 7)?;
-    offer(rt, "kind 3", two(), 1, 3, 0, 0)?;
-    offer(rt, "kind 4", two(), 1, 4, 0, 0)
-}
-
-fn values_with_none(rt: &impl Print) -> io::Result<()> {
-    offer(rt, "kind 0, a 1", two(), 1, 0, 1, 0)?;
-    offer(rt, "kind 0, b 1", two(), 1, 0, 0, 1)?;
-    offer(rt, "kind 3, a 1", two(), 1, 3, 1, 0)?;
-    offer(rt, "kind 3, b 1", two(), 1, 3, 0, 1)
+    let cases = [
+        ("kind 0", offer(0, 0, 0)),
+        ("kind 1, 7 8", offer(1, 7, 8)),
+        ("kind 1, 7 7", offer(1, 7, 7)),
+        ("kind 1, 8 7", offer(1, 8, 7)),
+        ("kind 2, 7 8", offer(2, 7, 8)),
+        ("kind 2, 8 7", offer(2, 8, 7)),
+        ("kind 3", offer(3, 0, 0)),
+        ("kind 4", offer(4, 0, 0)),
+        ("kind 0, a 1", offer(0, 1, 0)),
+        ("kind 0, b 1", offer(0, 0, 1)),
+        ("kind 3, a 1", offer(3, 1, 0)),
+        ("kind 3, b 1", offer(3, 0, 1)),
+    ];
+    for (label, offered) in cases {
+        turn(rt, label, two(), 1, offered)?;
+    }
+    Ok(())
 }
 
 fn in_a_call(rt: &impl Print) -> io::Result<()> {
-    let w = at_18(1);
-    offer(rt, "at 18, none", w, 1, 3, 0, 0)?;
-    offer(rt, "at 18, set 1 2", w, 1, 1, 1, 2)?;
-    offer(rt, "at 18, none with a 1", w, 1, 3, 1, 0)?;
-    offer(rt, "at 18, kind 4", w, 1, 4, 0, 0)?;
-    offer(rt, "at 18 with saved pid 3 of 2", at_18(3), 1, 3, 0, 0)
+    let cases = [
+        ("at 18, none", 1, offer(3, 0, 0)),
+        ("at 18, set 1 2", 1, offer(1, 1, 2)),
+        ("at 18, none with a 1", 1, offer(3, 1, 0)),
+        ("at 18, kind 4", 1, offer(4, 0, 0)),
+        ("at 18 with saved pid 3 of 2", 3, offer(3, 0, 0)),
+    ];
+    for (label, pid, offered) in cases {
+        turn(rt, label, at_18(pid), 1, offered)?;
+    }
+    Ok(())
 }
 
 fn of_pid_0(rt: &impl Print) -> io::Result<()> {
-    let x = at_18(0).turn(1, 3, 0, 0);
-    let answer = x.answer;
-    tell(rt, "at 18 with saved pid 0", answer)?;
-    let after = x.bench;
-    let r = after.r[0];
-    print!(rt; "R[0] after it:")?;
-    number(rt, r.first)?;
-    number(rt, r.second)?;
-    end_line(rt)
+    let x = at_18(0).turn(1, offer(3, 0, 0));
+    tell(rt, "at 18 with saved pid 0", x.answer)?;
+    let r = x.bench.r[0];
+    println!(rt; "R[0] after it: {} {}", r.first, r.second)
 }
 
 fn row(rt: &impl Print, bytes: &[u8]) -> io::Result<()> {
-    let mut i = 0;
-    while i < bytes.len() {
-        print!(rt; " {:02x}", wide(bytes[i]))?;
-        i = i + 1;
+    for b in bytes {
+        print!(rt; " {b:02x}")?;
     }
-    end_line(rt)
+    println!(rt; "")
 }
 
 // A picture of a bench of one station into all but the first and last guard bytes of a buffer.
@@ -251,30 +190,25 @@ fn pictured(rt: &impl Print, label: &str, w: Bench, out: &mut [u8]) -> io::Resul
     if len < 16 {
         return Ok(());
     }
-    let end = len - 8;
-    let d = picture::picture(w, &mut out[8..end]);
-    print!(rt; "{label}: refused, bytes")?;
-    number(rt, d.refused)?;
-    number(rt, d.len)?;
-    end_line(rt)?;
+    match picture::picture(w, &mut out[8..len - 8]) {
+        Ok(bytes) => println!(rt; "{label}: refused, bytes 0 {bytes}")?,
+        Err(reason) => println!(rt; "{label}: refused, bytes {} 0", reason.number())?,
+    }
     row(rt, out)
 }
 
 fn pictures(rt: &impl Print) -> io::Result<()> {
-    let m = Bench::fresh(258, 1);
-    let begun = m.bench.turn(1, 1, 258, 3);
-    let grown = begun.bench.turn(1, 3, 0, 0);
-    let w = grown.bench;
-    let mut short = [238u8; 47];
+    let fresh = Bench::fresh(258, 1).bench;
+    let begun = fresh.turn(1, offer(1, 258, 3)).bench;
+    let grown = begun.turn(1, offer(3, 0, 0)).bench;
     let mut right = [238u8; 48];
-    let mut more = [238u8; 49];
-    pictured(rt, "31 bytes lent", w, &mut short)?;
-    pictured(rt, "32 bytes lent", w, &mut right)?;
-    pictured(rt, "33 bytes lent", w, &mut more)?;
+    pictured(rt, "31 bytes lent", grown, &mut [238u8; 47])?;
+    pictured(rt, "32 bytes lent", grown, &mut right)?;
+    pictured(rt, "33 bytes lent", grown, &mut [238u8; 49])?;
     pictured(
         rt,
         "not sound, 32 bytes lent",
-        with_count(65536),
+        with_count(1, 65536),
         &mut right,
     )
 }
@@ -285,8 +219,6 @@ fn main(rt: HostRuntime) -> io::Result<()> {
     versions(&rt)?;
     stations(&rt)?;
     kinds(&rt)?;
-    more_kinds(&rt)?;
-    values_with_none(&rt)?;
     in_a_call(&rt)?;
     of_pid_0(&rt)?;
     pictures(&rt)

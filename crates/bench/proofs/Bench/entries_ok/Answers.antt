@@ -1,20 +1,13 @@
-use borrow.Author.Rules.{rules}
-use mathlib.Core.Path.{refl, ◌∙◌, sym}
-use native.Mathlib.Omega.{arith}
-use native.Mathlib.Numerals.{add-one}
-use Rattle.bench.specs.Sound.{each_entry}
-use Rattle.bench.proofs.Entries.{one_fails}
+use mathlib.Core.Path.{refl, ◌∙◌}
+use Rattle.std.proofs.Common.{rules, tests}
+use Rattle.std.proofs.lemmas.Iterator.{YieldsList-from_range}
+use Rattle.std.proofs.lemmas.Iterator.Search.{all_from_yields_List}
+use Rattle.reach.specs.Step.{count_limit}
+use Rattle.bench.proofs.Entries.{kept_at, all_tested}
 use Rattle.bench.proofs.Bench.entries_ok.Goals as goal
 
-pub loop-i-init : goal.loop-i-init
-unfolding each_entry
-loop-i-init c = (omega arith, refl)
-
-pub returns-then-not-entry_ok : goal.returns-then-not-entry_ok
-unfolding each_entry
-returns-then-not-entry_ok c =
-    sym (one_fails c.args.limit c.args.self c.loop-i.i 33 (search rules) (sym c.entry_ok.ensures ∙ c.if-not-entry_ok.true))
-
-pub loop-i-preserved : goal.loop-i-preserved
-unfolding each_entry
-loop-i-preserved c = (omega arith, rw (add-one, c.loop-i.invariant.1) (sym c.entry_ok.ensures ∙ c.if-not-entry_ok.false))
+pub returns : goal.returns
+returns c =
+    let w = c.args.self.now in
+    all_from_yields_List (kept_at count_limit w) _ _ _ c.all.ensures.ran (YieldsList-from_range 0 33 33 refl refl) (λ x b q k. search (rules, tests))
+    ∙ all_tested count_limit w 33

@@ -1,15 +1,9 @@
--- The loop keeps: while none was bad, what is left to search gives what the whole search gives.
+-- The loop keeps: while none was bad, the turns passed are good.
 use mathlib.Core.Path.{◌≡◌}
 use mathlib.Core.Bool.{false}
-use Prim.Native.Nat.{◌-◌, ◌≤◌}
-use lib.ListN.{length}
-use Rattle.runfile.specs.First.{first_from}
-use Rattle.runfile.specs.Reading.{bad_turn_at, first_turn}
+use Prim.Native.Nat.{ℕ, ◌<◌}
+use Rattle.runfile.specs.Reading.{bad_turn_at}
 use Rattle.runfile.proofs.checks.may_be_bad.Given as goal
 
-abbrev pub invariant-loop-turn : goal.invariant-loop-turn
-invariant-loop-turn l =
-    (l.turn ≤ length l.turns) × (l.bad ≡ false → first_turn l.n l.turns ≡ first_from (bad_turn_at l.n l.turns) l.turn (length l.turns - l.turn))
-
-abbrev pub decreases-loop-turn : goal.decreases-loop-turn
-decreases-loop-turn l = length l.turns - l.turn
+abbrev pub invariant-loop-b : goal.invariant-loop-b
+invariant-loop-b l = l.bad ≡ false → (i : ℕ) → i < l.b-index → bad_turn_at l.n l.turns i ≡ false

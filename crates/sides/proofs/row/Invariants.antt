@@ -1,9 +1,0 @@
--- `row` ends, since each turn leaves a byte less.
-use Rattle.std.proofs.Common.{length, ◌-◌, ◌≤◌}
-use Rattle.sides.proofs.row.Given as goal
-
-abbrev pub invariant-loop-i : goal.invariant-loop-i
-invariant-loop-i g l = l.i ≤ length l.bytes
-
-abbrev pub decreases-loop-i : goal.decreases-loop-i
-decreases-loop-i g l = length l.bytes - l.i
