@@ -27,7 +27,7 @@ pub struct Contents {
 }
 
 // A call of the table: kind 0 is read, 1 set, 2 swap.
-#[derive(Clone, Copy, PartialEq, Eq, Default)]
+#[derive(Clone, Copy, Default)]
 pub struct CallRecord {
     pub station: u32,
     pub kind: u32,

@@ -1,10 +1,10 @@
 // A run file as text.
-ghost use Rattle.std.specs.Prelude.{◌<◌, length};
+ghost use Rattle.std.specs.Prelude.{◌≡◌, ◌<◌, length};
 ghost use Rattle.script.specs.Wrote.{Wrote};
 ghost use Rattle.script.specs.Page.{Writes};
 ghost use Rattle.runfile.specs.Layout.{records};
 ghost use Rattle.rules.specs.Reason.{numbers};
-ghost use Rattle.runtext.specs.Text.{head_text, values_text, call_text, calls_text, turn_text, rows_text, turns_text, text_of, PrintedTo};
+ghost use Rattle.runtext.specs.Text.{head_text, values_text, call_text, calls_text, row_ends, turn_text, rows_text, turns_text, text_of, PrintedTo};
 
 use rules::Reason;
 use runfile::{CallRecord, call_at};
@@ -49,13 +49,20 @@ fn put_calls(page: &mut Page, table: &[u8])
     }
 }
 
-// A turn, and the end of its row after each twentieth and after the last.
+// A row ends after its twentieth turn, and after the last.
+fn row_ends(turns: &[u8], i: usize) -> bool
+    requires { i < length turns.now }
+    ensures { result ≡ row_ends turns.now i }
+{
+    (i + 1) % 20 == 0 || i + 1 == turns.len()
+}
+
 fn put_turn(page: &mut Page, turns: &[u8], i: usize)
     requires { i < length turns.now }
     ensures { Writes page.old page.new (turn_text turns.now i) }
 {
     page.decimal(u32::from(turns[i]));
-    if ((i + 1) % 20 == 0) | (i + 1 == turns.len()) {
+    if row_ends(turns, i) {
         page.put(b'\n');
     } else {
         page.put(b' ');

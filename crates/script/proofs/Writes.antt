@@ -7,7 +7,7 @@ use native.Mathlib.Numerals.{add-one}
 use borrow.Author.Tests.{leb-true, leb-false}
 use lib.Dec.{leb}
 use lib.ListN.{length, get_or, take, drop, length-append}
-use lib.Seq.{sets, length-sets, set_out, take-suc, take_all}
+use lib.Seq.{sets, length-sets, set_out, take-suc}
 use Rattle.rules.proofs.Facts.{either_way}
 use Rattle.octets.proofs.Buffers.{sets-append}
 use Rattle.octets.proofs.Buffers.{in_front as at_front}
@@ -53,9 +53,6 @@ module _ {a b : List ℕ} {i j : ℕ} {xs : List ℕ} (v : Wrote a b i j xs) whe
 pub one_more : {a b c : List ℕ} {i j k : ℕ} (text : List ℕ) (n : ℕ) → n < length text
     → Wrote a b i j (take n text) → Wrote b c j k (get_or text n 0 ∷ []) → Wrote a c i k (take (n + 1) text)
 one_more text n h v w = rw (add-one, take-suc text n 0 h) (and_then v w)
-
-pub all_there : {a b : List ℕ} {i j : ℕ} (text : List ℕ) (n : ℕ) → length text ≤ n → Wrote a b i j (take n text) → Wrote a b i j text
-all_there text n h v = rw (take_all n text h) at v
 
 -- from the start of a buffer
 module _ {a b : List ℕ} {j : ℕ} {xs : List ℕ} (v : Wrote a b 0 j xs) where

@@ -1,6 +1,6 @@
 // Text appended to a page, which is a lent buffer with a place in it: a byte, a word, a decimal number, the word for a call's kind,
 // the line of a refusal. What has no place in the buffer is not written, but the page's place counts it, so a text is measured by
-// writing it to a buffer of one byte.
+// writing it to a buffer of one byte. Its module number: a number read from a text, a digit at a time.
 #![tactic(auto)]
 
 ghost use Rattle.std.specs.Prelude.{◌≡◌, [], ◌∷◌, ◌≤◌};
@@ -13,9 +13,6 @@ ghost use Rattle.script.specs.Promise.{WritersSettled};
 mod number;
 
 pub use number::number_more;
-
-// The place past which none is counted.
-const LAST_PLACE: usize = 18446744073709551615;
 
 // A lent buffer and the place where the next byte goes.
 #[derive(Drop)]
@@ -42,9 +39,7 @@ impl<'a> Page<'a> {
         if self.at < self.out.len() {
             self.out[self.at] = b;
         }
-        if self.at < LAST_PLACE {
-            self.at += 1;
-        }
+        self.at = self.at.saturating_add(1);
     }
 
     // The bytes of text.

@@ -8,8 +8,7 @@ use Rattle.sheet.specs.Report.{report_of}
 use Rattle.runfile.specs.Reading.{longest, read_of}
 use Rattle.runfile.specs.Writing.{write_of}
 use Rattle.runtext.specs.Text.{print_of}
-use Rattle.drafting.specs.Parse.{Parsed}
-use Rattle.drafting.specs.Parse.{parse_of}
+use Rattle.drafting.specs.Parse.{Parsed, parse_of}
 use Rattle.stepbench.specs.Word.{packed_word, Apart}
 
 -- the largest K that a word holds, 16,777,215
@@ -26,11 +25,9 @@ text_room = 153635
 abbrev pub file_room : ℕ
 file_room = longest
 
-abbrev pub reported_word : Numbers → ℕ
-reported_word r = packed_word r.refused r.k r.len
-
-abbrev pub printed_word : Numbers → ℕ
-printed_word r = packed_word r.refused r.k r.len
+-- an answer that is a length, or its refusal
+abbrev pub told_word : Numbers → ℕ
+told_word r = packed_word r.refused r.k r.len
 
 -- what was expected, and the line; one that does not fit is told as the largest that does
 abbrev pub line_told : ℕ → ℕ
@@ -39,20 +36,17 @@ line_told line = min line last_line
 abbrev pub parsed_word : Parsed → ℕ
 parsed_word r = packed_word r.expected (line_told r.line) r.len
 
-abbrev pub written_word : Numbers → ℕ
-written_word r = packed_word r.refused r.k r.len
-
 abbrev pub report_word : List ℕ → List ℕ → ℕ
-report_word file out = reported_word (report_of file (length out))
+report_word file out = told_word (report_of file (length out))
 
 abbrev pub print_word : List ℕ → List ℕ → ℕ
-print_word file out = printed_word (print_of file (length out))
+print_word file out = told_word (print_of file (length out))
 
 abbrev pub parse_word : List ℕ → List ℕ → ℕ
 parse_word text out = parsed_word (parse_of text (length out))
 
 abbrev pub write_word : ℕ → List ℕ → List ℕ → List ℕ → ℕ
-write_word n table turns out = written_word (write_of n table turns (length out))
+write_word n table turns out = told_word (write_of n table turns (length out))
 
 -- reading writes no bytes: its length is 0
 abbrev pub read_word : List ℕ → ℕ

@@ -2,8 +2,10 @@ use mathlib.Core.Path.{sym}
 use Rattle.script.proofs.Pages.{then}
 use Rattle.runtext.proofs.printing.put_turn.Goals as goal
 
-pub returns-then-i-turns : goal.returns-then-i-turns
-returns-then-i-turns c = simp (c.if-i-turns.true, sym c.from.ensures) (then c.decimal.ensures c.put.ensures)
+pub returns-then-row_ends : goal.returns-then-row_ends
+returns-then-row_ends c =
+    simp (sym c.row_ends.ensures, c.if-row_ends.true, sym c.from.ensures) (then c.decimal.ensures c.put.ensures)
 
-pub returns-else-i-turns : goal.returns-else-i-turns
-returns-else-i-turns c = simp (c.if-i-turns.false, sym c.from.ensures) (then c.decimal.ensures c.put-else-i-turns.ensures)
+pub returns-else-row_ends : goal.returns-else-row_ends
+returns-else-row_ends c =
+    simp (sym c.row_ends.ensures, c.if-row_ends.false, sym c.from.ensures) (then c.decimal.ensures c.put-else-row_ends.ensures)
