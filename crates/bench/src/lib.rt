@@ -1,9 +1,8 @@
 // The bench: its registers and stations, and what a turn takes and hands back. A fresh bench is made here.
-// Its modules: sound (the test of a bench), turns (one turn of the bench).
+// Its modules: sound (the test of a bench), turns (one turn of a bench).
 #![tactic(auto)]
 
-ghost use Rattle.std.specs.Prelude.{◌≡◌};
-ghost use Rattle.std.specs.Prelude.{true};
+ghost use Rattle.std.specs.Prelude.{◌≡◌, true};
 ghost use Rattle.bench.specs.Record.{blank};
 ghost use Rattle.bench.specs.Sound.{sound};
 ghost use Rattle.bench.specs.Turn.{fresh_of};
@@ -27,7 +26,7 @@ pub struct Bench {
     pub stations: [Station; 33],
 }
 
-// A bench that is sound, so that no turn tests it.
+// A bench that is sound, so that no turn of it tests that. A run keeps one and turns it where it is.
 #[derive(Clone, Copy)]
 pub struct SoundBench {
     pub bench: Bench,
@@ -41,7 +40,7 @@ pub struct Turned {
     pub bench: Bench,
 }
 
-// What the making of a fresh bench hands back: refused is 3, or 0.
+// What the making of a fresh bench hands back: refused is 3, or 0. It is a number, since `fresh_of` tells it, and a refusal hands back a bench too.
 #[derive(Clone, Copy)]
 pub struct Made {
     pub refused: u32,

@@ -3,7 +3,7 @@ ghost use Rattle.std.specs.Prelude.{◌≡◌, ◌<◌, not, ◌||◌};
 ghost use Rattle.rules.specs.Test.{passes, pass, all_kept};
 ghost use Rattle.reach.specs.Step.{count_limit};
 ghost use Rattle.bench.specs.Record.{a_at, r_at, station_at};
-ghost use Rattle.bench.specs.Sound.{unread, zero_but_count, own_turns, called, agreed, zero_halves, a_rules, r_rules, rules_of, entry_kept, each_entry, head_rules, sound};
+ghost use Rattle.bench.specs.Sound.{unread, zero_but_count, fresh_station, own_turns, called, agreed, zero_halves, a_rules, r_rules, rules_of, entry_kept, each_entry, head_rules, sound};
 
 use crate::Bench;
 use card::{Claim, Halves};
@@ -37,6 +37,12 @@ fn zero_but_count(t: Station) -> bool
         ..Station::default()
     };
     t == fresh
+}
+
+fn fresh(t: Station) -> bool
+    ensures { result ≡ pass (fresh_station t.place t) }
+{
+    t == Station::default()
 }
 
 fn own_turns(t: Station) -> bool
@@ -79,7 +85,7 @@ fn station_ok(t: Station, n: u32, i: u32) -> bool
 {
     let k = t.place.number();
     let zero_but_count = zero_but_count(t);
-    let fresh = t.c == 0 && k == 0 && zero_but_count;
+    let fresh = fresh(t);
     t.c <= Bench::COUNT
         && given(n < i, fresh)
         && given(i == 0, fresh)

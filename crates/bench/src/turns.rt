@@ -21,7 +21,7 @@ impl SoundBench {
         let at = station as usize;
         let t = self.bench.stations[at];
         let to = reaches(t, station) as usize;
-        let g = Reach {
+        let taken = Reach {
             id: station,
             v: self.bench.v,
             p: self.bench.p,
@@ -29,7 +29,7 @@ impl SoundBench {
             r: self.bench.r[to],
             station: t,
         };
-        let m = g.moved(offer);
+        let m = taken.moved(offer);
         self.bench.v = m.reach.v;
         self.bench.p = m.reach.p;
         self.bench.a[to] = m.reach.a;

@@ -2,6 +2,8 @@
 // It builds benches by hand, sound ones and others, and prints what a turn answers and what it changed.
 #![tactic(auto)]
 
+ghost use Rattle.std.specs.Prelude.{◌<◌};
+
 use bench::Bench;
 use card::{Claim, Halves};
 use method::{Answer, Call, Place, Station};
@@ -33,17 +35,12 @@ fn two() -> Bench {
     Bench::fresh(7, 2).bench
 }
 
-// Station 1 at rest with the count c.
-fn with_count(c: u32) -> Bench {
+// A record at rest with the count c: station 1, or record 0, which belongs to no station.
+fn with_count(entry: usize, c: u32) -> Bench
+    requires { entry < 33 }
+{
     let mut w = two();
-    w.stations[1].c = c;
-    w
-}
-
-// Record 0, which belongs to no station, with the count c.
-fn with_record_0(c: u32) -> Bench {
-    let mut w = two();
-    w.stations[0].c = c;
+    w.stations[entry].c = c;
     w
 }
 
@@ -87,85 +84,90 @@ fn fresh_benches(rt: &impl Print) -> io::Result<()> {
 }
 
 fn counts(rt: &impl Print) -> io::Result<()> {
-    let full = with_count(65535);
-    turn(
-        rt,
-        "c 65,534, set 7 8",
-        with_count(65534),
-        1,
-        offer(1, 7, 8),
-    )?;
-    turn(rt, "c 65,535, set 7 8", full, 1, offer(1, 7, 8))?;
-    turn(
-        rt,
-        "c 65,535, set 8 9, which would end at 5",
-        full,
-        1,
-        offer(1, 8, 9),
-    )?;
-    turn(rt, "c 65,535, swap 7 8", full, 1, offer(2, 7, 8))?;
-    turn(rt, "c 65,535, read", full, 1, offer(0, 0, 0))?;
-    turn(rt, "c 65,536, read", with_count(65536), 1, offer(0, 0, 0))
+    let cases = [
+        ("c 65,534, set 7 8", 65534, offer(1, 7, 8)),
+        ("c 65,535, set 7 8", 65535, offer(1, 7, 8)),
+        (
+            "c 65,535, set 8 9, which would end at 5",
+            65535,
+            offer(1, 8, 9),
+        ),
+        ("c 65,535, swap 7 8", 65535, offer(2, 7, 8)),
+        ("c 65,535, read", 65535, offer(0, 0, 0)),
+        ("c 65,536, read", 65536, offer(0, 0, 0)),
+    ];
+    for (label, c, offered) in cases {
+        turn(rt, label, with_count(1, c), 1, offered)?;
+    }
+    Ok(())
 }
 
 fn versions(rt: &impl Print) -> io::Result<()> {
-    let last = with_version(4294967292);
-    let late = with_version(4294967294);
-    let odd = with_version(4294967293);
-    turn(rt, "V.seq 4,294,967,292, set 7 8", last, 1, offer(1, 7, 8))?;
-    turn(rt, "V.seq 4,294,967,294, set 7 8", late, 1, offer(1, 7, 8))?;
-    turn(rt, "V.seq 4,294,967,294, read", late, 1, offer(0, 0, 0))?;
-    turn(rt, "V.seq 4,294,967,293, read", odd, 1, offer(0, 0, 0))
+    let cases = [
+        ("V.seq 4,294,967,292, set 7 8", 4294967292, offer(1, 7, 8)),
+        ("V.seq 4,294,967,294, set 7 8", 4294967294, offer(1, 7, 8)),
+        ("V.seq 4,294,967,294, read", 4294967294, offer(0, 0, 0)),
+        ("V.seq 4,294,967,293, read", 4294967293, offer(0, 0, 0)),
+    ];
+    for (label, seq, offered) in cases {
+        turn(rt, label, with_version(seq), 1, offered)?;
+    }
+    Ok(())
 }
 
 fn stations(rt: &impl Print) -> io::Result<()> {
-    turn(rt, "station 0 of 2, read", two(), 0, offer(0, 0, 0))?;
-    turn(rt, "station 2 of 2, read", two(), 2, offer(0, 0, 0))?;
-    turn(rt, "station 3 of 2, read", two(), 3, offer(0, 0, 0))?;
-    turn(rt, "station 3 of 2, kind 4", two(), 3, offer(4, 0, 0))?;
+    let cases = [
+        ("station 0 of 2, read", 0, offer(0, 0, 0)),
+        ("station 2 of 2, read", 2, offer(0, 0, 0)),
+        ("station 3 of 2, read", 3, offer(0, 0, 0)),
+        ("station 3 of 2, kind 4", 3, offer(4, 0, 0)),
+    ];
+    for (label, station, offered) in cases {
+        turn(rt, label, two(), station, offered)?;
+    }
     turn(
         rt,
         "record 0 with c 1, read",
-        with_record_0(1),
+        with_count(0, 1),
         1,
         offer(0, 0, 0),
     )
 }
 
+// Every kind on offer to a station at rest, and kinds that come with no values.
 fn kinds(rt: &impl Print) -> io::Result<()> {
-    turn(rt, "kind 0", two(), 1, offer(0, 0, 0))?;
-    turn(rt, "kind 1, 7 8", two(), 1, offer(1, 7, 8))?;
-    turn(rt, "kind 1, 7 7", two(), 1, offer(1, 7, 7))?;
-    turn(rt, "kind 1, 8 7", two(), 1, offer(1, 8, 7))
-}
-
-fn more_kinds(rt: &impl Print) -> io::Result<()> {
-    turn(rt, "kind 2, 7 8", two(), 1, offer(2, 7, 8))?;
-    turn(rt, "kind 2, 8 7", two(), 1, offer(2, 8, 7))?;
-    turn(rt, "kind 3", two(), 1, offer(3, 0, 0))?;
-    turn(rt, "kind 4", two(), 1, offer(4, 0, 0))
-}
-
-fn values_with_none(rt: &impl Print) -> io::Result<()> {
-    turn(rt, "kind 0, a 1", two(), 1, offer(0, 1, 0))?;
-    turn(rt, "kind 0, b 1", two(), 1, offer(0, 0, 1))?;
-    turn(rt, "kind 3, a 1", two(), 1, offer(3, 1, 0))?;
-    turn(rt, "kind 3, b 1", two(), 1, offer(3, 0, 1))
+    let cases = [
+        ("kind 0", offer(0, 0, 0)),
+        ("kind 1, 7 8", offer(1, 7, 8)),
+        ("kind 1, 7 7", offer(1, 7, 7)),
+        ("kind 1, 8 7", offer(1, 8, 7)),
+        ("kind 2, 7 8", offer(2, 7, 8)),
+        ("kind 2, 8 7", offer(2, 8, 7)),
+        ("kind 3", offer(3, 0, 0)),
+        ("kind 4", offer(4, 0, 0)),
+        ("kind 0, a 1", offer(0, 1, 0)),
+        ("kind 0, b 1", offer(0, 0, 1)),
+        ("kind 3, a 1", offer(3, 1, 0)),
+        ("kind 3, b 1", offer(3, 0, 1)),
+    ];
+    for (label, offered) in cases {
+        turn(rt, label, two(), 1, offered)?;
+    }
+    Ok(())
 }
 
 fn in_a_call(rt: &impl Print) -> io::Result<()> {
-    let w = at_18(1);
-    turn(rt, "at 18, none", w, 1, offer(3, 0, 0))?;
-    turn(rt, "at 18, set 1 2", w, 1, offer(1, 1, 2))?;
-    turn(rt, "at 18, none with a 1", w, 1, offer(3, 1, 0))?;
-    turn(rt, "at 18, kind 4", w, 1, offer(4, 0, 0))?;
-    turn(
-        rt,
-        "at 18 with saved pid 3 of 2",
-        at_18(3),
-        1,
-        offer(3, 0, 0),
-    )
+    let cases = [
+        ("at 18, none", 1, offer(3, 0, 0)),
+        ("at 18, set 1 2", 1, offer(1, 1, 2)),
+        ("at 18, none with a 1", 1, offer(3, 1, 0)),
+        ("at 18, kind 4", 1, offer(4, 0, 0)),
+        ("at 18 with saved pid 3 of 2", 3, offer(3, 0, 0)),
+    ];
+    for (label, pid, offered) in cases {
+        turn(rt, label, at_18(pid), 1, offered)?;
+    }
+    Ok(())
 }
 
 fn of_pid_0(rt: &impl Print) -> io::Result<()> {
@@ -206,7 +208,7 @@ fn pictures(rt: &impl Print) -> io::Result<()> {
     pictured(
         rt,
         "not sound, 32 bytes lent",
-        with_count(65536),
+        with_count(1, 65536),
         &mut right,
     )
 }
@@ -217,8 +219,6 @@ fn main(rt: HostRuntime) -> io::Result<()> {
     versions(&rt)?;
     stations(&rt)?;
     kinds(&rt)?;
-    more_kinds(&rt)?;
-    values_with_none(&rt)?;
     in_a_call(&rt)?;
     of_pid_0(&rt)?;
     pictures(&rt)
