@@ -1,4 +1,4 @@
--- The input byte by byte: a byte more where the reading goes on, none where it does not, and the end. Assumes nothing.
+-- The end of the input where it cuts a case, and that the contracts of feeding settle all. Assumes nothing.
 use mathlib.Core.Path.{◌≡◌, ◌∙◌, sym, ap}
 use mathlib.Core.Bool.{true}
 use mathlib.Core.List.{List}
