@@ -4,7 +4,7 @@ ghost use Rattle.script.specs.Output.{OutputTo};
 ghost use Rattle.sheet.specs.Output.{report_output, ReportOutputWhole};
 
 use crate::reporting::report;
-use script::Page;
+use script::told_refusal;
 
 // Writes it to the front of the buffer, as far as that goes, and tells how many of its bytes are there.
 pub fn output(file: &[u8], out: &mut [u8]) -> usize
@@ -12,11 +12,7 @@ pub fn output(file: &[u8], out: &mut [u8]) -> usize
 {
     match report(file, out) {
         Ok(len) => len,
-        Err(reason) => {
-            let mut page = Page::new(out);
-            page.refused(reason.number(), reason.k() as u32);
-            page.at.min(page.out.len())
-        }
+        Err(reason) => told_refusal(out, reason.number(), reason.k() as u32),
     }
 }
 
