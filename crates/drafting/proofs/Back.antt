@@ -26,7 +26,8 @@ use Rattle.runtext.proofs.Records.{GoodCall, not_bad}
 use Rattle.runtext.proofs.Runs.{GoodRun, call_is, call_length, call_good, turn_good}
 use Rattle.drafting.specs.declared.Stage.{Stage}
 use Rattle.drafting.specs.declared.Stage.TheVariants.{StartValue, Stations, Count, Call, Kind, First, Second, Turn}
-use Rattle.drafting.specs.Draft.{no_number, same_bytes, draft, took_start, took_count, took_station, took_kind, took_first, took_second, took_turn, took_at, made_call, ended_at, lacking_at, call_from, turn_from}
+use Rattle.script.specs.Number.{no_number}
+use Rattle.drafting.specs.Draft.{same_bytes, draft, took_start, took_count, took_station, took_kind, took_first, took_second, took_turn, took_at, made_call, ended_at, lacking_at, call_from, turn_from}
 use Rattle.drafting.specs.Scan.{Scanned, scan, empty, no_scan, word_ended, line_ended, step_on, step, run, given}
 use Rattle.drafting.specs.Parse.{last_draft, lacking, table_in, turns_in}
 use Rattle.drafting.proofs.Sane.{no_call_made, no_turn_made}

@@ -1,60 +1,88 @@
--- The two rows that a text fills, a byte of the text at a time. Assumes nothing.
-use mathlib.Core.Path.{◌≡◌, ◌∙◌, sym, ap}
+-- The two rows that a text fills, a byte of the text at a time; past a refusal nothing changes. Assumes nothing.
+use mathlib.Core.Path.{◌≡◌, refl, ◌∙◌, sym, ap}
 use mathlib.Core.Bool.{false}
-use mathlib.Core.List.{List}
-use Prim.Native.Nat.{ℕ, ◌+◌, ◌<◌, ◌≤◌}
-use native.Mathlib.Omega.{arith}
-use lib.ListN.{length, get_or, take}
-use lib.Seq.{take_all}
-use Rattle.script.specs.Wrote.{last_place}
-use Rattle.script.proofs.Writes.{still, and_then}
+use mathlib.Core.List.{List, [], ◌∷◌}
+use Prim.Native.Nat.{ℕ, ◌+◌, ◌<◌}
+use borrow.Author.Tests.{ne_eqb}
+use lib.Dec.{eqb}
+use lib.ListN.{length, get_or, take, drop}
+use Rattle.std.proofs.lemmas.List.{take-append-drop}
+use Rattle.script.proofs.Pages.{then}
+use Rattle.drafting.specs.declared.Expected.{Expected}
+use Rattle.drafting.specs.declared.Complaint.{Complaint}
+use Rattle.drafting.specs.declared.Draft.{Draft}
+use Rattle.script.specs.declared.Page.{Page}
 use Rattle.drafting.specs.declared.Scan.{Scan}
-use Rattle.drafting.specs.Coded.{no_word, code_from, code_scan, coded_scan, OfBytes}
-use Rattle.drafting.specs.Draft.{number_from, no_draft, call_made, turn_made}
-use Rattle.drafting.specs.Scan.{Scanned, no_scan, step, run, given, line_ended}
-use Rattle.drafting.specs.Gather.{Filled}
-use Rattle.drafting.specs.Parse.{table_in, turns_in}
-use Rattle.drafting.proofs.Scans.{run_more, given_more}
+use Rattle.drafting.specs.Draft.{call_made, turn_made}
+use Rattle.drafting.specs.Scan.{Scanned, no_scan, empty, word_ended, line_ended, step, run}
+use Rattle.drafting.specs.Held.{drafted, scanned, Begun, RefusedAt}
+use Rattle.drafting.specs.Gather.{Filled, Gathered, Told, Complains}
+use Rattle.drafting.specs.Expected.{expected_number}
+use Rattle.drafting.specs.Parse.{last_draft, lacking, table_in, turns_in}
+use Rattle.drafting.proofs.Scans.{run_both, run_more, given_more}
+use Rattle.drafting.proofs.Steps.{above}
 
--- what stands in the rows after the first i bytes of a text
-pub record Gathered (text : List ℕ) (i : ℕ) (s : Scan) (table table' : List ℕ) (a : ℕ) (turns turns' : List ℕ) (b : ℕ) : Type 0 where
-  pub scanned : s ≡ coded_scan (run no_scan (take i text))
-  pub rows : Filled table table' 0 a (given call_made no_scan (take i text)) turns turns' 0 b (given turn_made no_scan (take i text))
-
-pub none_yet : (text table turns : List ℕ) → length table ≤ last_place → length turns ≤ last_place → (s : Scan) → s ≡ code_scan 1 false no_word no_draft
-    → Gathered text 0 s table table 0 turns turns 0
-unfolding run given code_from number_from
-none_yet text table turns h g s e =
-    record { scanned = e; rows = record { calls = still table 0 h (omega arith); turned = still turns 0 g (omega arith) } }
-
-pub one_more : {table table' table'' turns turns' turns'' : List ℕ} {a a' b b' : ℕ} (text : List ℕ) (i : ℕ) {s s' : Scan} → i < length text
-    → Gathered text i s table table' a turns turns' b
-    → OfBytes s (λ t. (s' ≡ coded_scan (step t (get_or text i 0))) × Filled table' table'' a a' (call_made t.draft (step t (get_or text i 0)).draft) turns' turns'' b b' (turn_made t.draft (step t (get_or text i 0)).draft))
-    → Gathered text (i + 1) s' table table'' a' turns turns'' b'
-one_more text i {s} {s'} h g fed =
-    let f = fed (run no_scan (take i text)) g.scanned in
+pub one_more : {calls calls' calls'' moves moves' moves'' : Page} (text : List ℕ) (i : ℕ) {s s' : Scan} → i < length text
+    → Gathered text i calls calls' moves moves' s (take i text) → step (scanned text i s) (get_or text i 0) ≡ scanned text (i + 1) s' → Begun (i + 1) s'.within
+    → Filled calls' calls'' (call_made (drafted s.draft) (drafted s'.draft)) moves' moves'' (turn_made (drafted s.draft) (drafted s'.draft))
+    → Gathered text (i + 1) calls calls'' moves moves'' s' (take (i + 1) text)
+one_more text i {s} {s'} h g e b f =
+    let t = run no_scan (take i text) in
+    let x = get_or text i 0 in
+    let n : step t x ≡ scanned text (i + 1) s' = ap (λ t. step t x) g.reads ∙ e in
     record {
-      scanned = f.0 ∙ ap coded_scan (sym (run_more no_scan text i h));
+      reads = run_more no_scan text i h ∙ n;
+      begun = b;
       rows = record {
-        calls = rw (given_more no_scan text i h call_made) (and_then g.rows.calls f.1.calls);
-        turned = rw (given_more no_scan text i h turn_made) (and_then g.rows.turned f.1.turned);
+        called = rw (given_more no_scan text i h call_made, n, g.reads) (then g.rows.called f.called);
+        turned = rw (given_more no_scan text i h turn_made, n, g.reads) (then g.rows.turned f.turned);
       };
     }
 
--- the whole text
-pub all_read : {table table' turns turns' : List ℕ} {a b : ℕ} (text : List ℕ) (i : ℕ) {s : Scan} → length text ≤ i
-    → Gathered text i s table table' a turns turns' b
-    → (s ≡ coded_scan (run no_scan text)) × Filled table table' 0 a (given call_made no_scan text) turns turns' 0 b (given turn_made no_scan text)
-all_read text i h g =
-    let e = take_all i text h in
-    let r = g.rows in
-    (rw e at g.scanned, record { calls = rw e at r.calls; turned = rw e at r.turned })
+-- past a refusal nothing changes
+past : (s : Scanned) (text : List ℕ) → (s.draft.expected ≡ 0 → ⊥) → run s text ≡ s
+unfolding run step
+past s [] h = refl
+past s (b ∷ bs) h = rw (ne_eqb s.draft.expected 0 h) (past s bs h)
 
--- and the end of its last line
-pub last_line : {table table' table'' turns turns' turns'' : List ℕ} {a a' b b' : ℕ} (text : List ℕ) (s : Scanned) → s ≡ run no_scan text
-    → Filled table table' 0 a (given call_made no_scan text) turns turns' 0 b (given turn_made no_scan text)
-    → Filled table' table'' a a' (call_made s.draft (line_ended s)) turns' turns'' b b' (turn_made s.draft (line_ended s))
-    → Filled table table'' 0 a' (table_in text) turns turns'' 0 b' (turns_in text)
-unfolding table_in turns_in
-last_line text s e f g =
-    record { calls = rw (← e) (and_then f.calls g.calls); turned = rw (← e) (and_then f.turned g.turned) }
+pub refused_on : {calls calls' moves moves' : Page} {line : ℕ} (x : Expected) (text : List ℕ) (i : ℕ) {s : Scan} → i < length text
+    → Gathered text i calls calls' moves moves' s (take i text) → RefusedAt (step (scanned text i s) (get_or text i 0)) line x
+    → RefusedAt (run no_scan text) line x
+refused_on x text i {s} h g r =
+    let t = step (scanned text i s) (get_or text i 0) in
+    let n : run no_scan (take (i + 1) text) ≡ t = run_more no_scan text i h ∙ ap (λ t. step t (get_or text i 0)) g.reads in
+    let e : run no_scan text ≡ t =
+    ap (run no_scan) (sym (take-append-drop (i + 1) text)) ∙ run_both no_scan (take (i + 1) text) (drop (i + 1) text)
+    ∙ ap (λ t. run t (drop (i + 1) text)) n ∙ past t (drop (i + 1) text) (λ z. above x (sym r.1.1 ∙ z)) in
+    rw e r
+
+-- the end of a text at which something was refused
+pub refused_last : (text : List ℕ) (c : Complaint) → RefusedAt (run no_scan text) c.line c.expected → Complains text c
+unfolding line_ended word_ended empty
+refused_last text c r =
+    let t = run no_scan text in
+    let z : eqb t.draft.expected 0 ≡ false = ne_eqb t.draft.expected 0 (λ z. above c.expected (sym r.1.1 ∙ z)) in
+    record { line = r.1.0; lacks = rw (r.0, z, z) r.1.1 }
+
+-- and at which nothing was
+module _ {calls calls' moves moves' : Page} (text : List ℕ) (s : Scan) (g : Gathered text (length text) calls calls' moves moves' s text) where
+  ends : last_draft text ≡ line_ended (scanned text (length text) s)
+  ends = ap line_ended g.reads
+
+  pub told : {calls'' moves'' : Page} (d : Draft) → (line_ended (scanned text (length text) s) ≡ drafted d) × (lacking (drafted d) ≡ 0)
+      → Filled calls' calls'' (call_made (drafted s.draft) (drafted d)) moves' moves'' (turn_made (drafted s.draft) (drafted d))
+      → Told text calls calls'' moves moves'' d
+  unfolding table_in turns_in
+  told d e f =
+      let n = ends ∙ e.0 in
+      record {
+        last = n;
+        whole = rw n e.1;
+        rows = record {
+          called = rw (n, g.reads) (then g.rows.called f.called);
+          turned = rw (n, g.reads) (then g.rows.turned f.turned);
+        };
+      }
+
+  pub lacks : (c : Complaint) → s.line ≡ c.line → lacking (line_ended (scanned text (length text) s)) ≡ expected_number c.expected → Complains text c
+  lacks c e f = record { line = ap (λ t. t.line) g.reads ∙ e; lacks = ap lacking ends ∙ f }

@@ -12,10 +12,10 @@ use Rattle.script.proofs.Decimals.{by_digits}
 use Rattle.runtext.specs.Letters.{turns_word}
 use Rattle.runfile.specs.declared.CallRecord.{CallRecord}
 use Rattle.drafting.specs.declared.Stage.{Stage}
-use Rattle.drafting.specs.declared.Draft.{Draft}
-use Rattle.drafting.specs.Draft.{no_number, number_from, same_bytes, draft, call_made, turn_made}
+use Rattle.script.specs.Number.{no_number}
+use Rattle.drafting.specs.Draft.{Drafted, number_from, same_bytes, draft, call_made, turn_made}
 use Rattle.drafting.specs.Scan.{Scanned, scan, empty, is_blank, step_on, step, run, given}
-use Rattle.drafting.proofs.Codes.{number_both}
+use Rattle.drafting.proofs.Letters.{number_both}
 use Rattle.drafting.proofs.Scans.{run_both, given_both}
 use Rattle.drafting.proofs.Sane.{no_call_made, no_turn_made}
 
@@ -62,7 +62,7 @@ plain_both (x ∷ xs) ys e f =
 
 -- a word, or a part of one
 module _ (line x n q t : ℕ) (stage : Stage) (c : CallRecord) where
-  abbrev D : Draft
+  abbrev D : Drafted
   D = draft 0 stage x n q t c
 
   letter_on : (w : List ℕ) (b : ℕ) → is_plain b ≡ true → step (scan line false w (draft 0 stage x n q t c)) b ≡ scan line false (w ++ (b ∷ [])) (draft 0 stage x n q t c)
@@ -88,9 +88,9 @@ module _ (line x n q t : ℕ) (stage : Stage) (c : CallRecord) where
   word_goes text e = word_on text [] e
 
 -- a digit more
-digit_more : (m d : ℕ) → d < 10 → m < no_number → number_from m (digit d ∷ []) ≡ 10 * m + d
+digit_on : (m d : ℕ) → d < 10 → m < no_number → number_from m (digit d ∷ []) ≡ 10 * m + d
 unfolding number_from
-digit_more m d h g =
+digit_on m d h g =
     let e : 48 + d - 48 ≡ d = omega arith in
     rw (le-leb 48 (48 + d) (omega arith), le-leb (48 + d) 57 (omega arith), lt-ltb m no_number g, e)
 
@@ -134,14 +134,14 @@ numeral =
     by_digits (λ v l. v < no_number → Numeral v l)
     (λ v h g.
     let e : 10 * 0 + v ≡ v = omega arith in
-    record { number = digit_more 0 v h (omega arith) ∙ e; letters = plain_digit v h; low = omega arith })
+    record { number = digit_on 0 v h (omega arith) ∙ e; letters = plain_digit v h; low = omega arith })
     (λ v h p g.
     let i = p (omega arith) in
     let e : 10 * (v / 10) + v % 10 ≡ v = omega arith in
     record {
       number = number_both 0 (decimal (v / 10)) (digit (v % 10) ∷ [])
           ∙ ap (λ m. number_from m (digit (v % 10) ∷ [])) i.number
-          ∙ digit_more (v / 10) (v % 10) (omega arith) (omega arith)
+          ∙ digit_on (v / 10) (v % 10) (omega arith) (omega arith)
           ∙ e;
       letters = plain_both (decimal (v / 10)) (digit (v % 10) ∷ []) i.letters (plain_digit (v % 10) (omega arith));
       low = low_more (decimal (v / 10)) (digit (v % 10) ∷ []) i.low;

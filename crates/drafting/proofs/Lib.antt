@@ -1,6 +1,6 @@
-pub mod Numbers
-pub mod Codes
+pub mod Letters
 pub mod Scans
+pub mod Steps
 pub mod Fills
 pub mod Records
 pub mod Writable

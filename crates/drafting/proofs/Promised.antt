@@ -17,9 +17,8 @@ use Rattle.runfile.proofs.Trips.{written_reads_back, read_writes_back}
 use Rattle.rules.specs.Reason.{Numbers}
 use Rattle.runtext.specs.Text.{file_text, print_of, printed_on, PrintedTo}
 use Rattle.runtext.proofs.Runs.{held}
-use Rattle.drafting.specs.Parse.{Parsed}
 use Rattle.drafting.specs.Scan.{no_scan, run}
-use Rattle.drafting.specs.Parse.{last_draft, lacking, table_in, turns_in, parsed, ParsedTo}
+use Rattle.drafting.specs.Parse.{last_draft, lacking, table_in, turns_in, Parsed, parsed, ParsedTo}
 use Rattle.drafting.specs.Promise.{TurnedBack, PrintedReadsBack, TextsTellGoodRuns, ParseSettled}
 use Rattle.drafting.proofs.Sane.{tells_good}
 use Rattle.drafting.proofs.Parses.{refused, taken}

@@ -24,8 +24,8 @@ use Rattle.runtext.proofs.Records.{GoodCall}
 use Rattle.runtext.proofs.Runs.{GoodRun}
 use Rattle.drafting.specs.declared.Stage.{Stage}
 use Rattle.drafting.specs.declared.Stage.TheVariants.{Start, StartValue, AfterStart, Stations, Count, AfterCount, Call, Kind, First, Second, AfterCall, Turn}
-use Rattle.drafting.specs.declared.Draft.{Draft}
-use Rattle.drafting.specs.Draft.{draft, refuse, no_number, Said, said, is_value, is_from1_to, took_start, took_count, took_station, took_kind, took_first, took_second, took_turn, took_at, made_call, ended_at, call_from, turn_from, call_made, turn_made, lacking_at}
+use Rattle.script.specs.Number.{no_number}
+use Rattle.drafting.specs.Draft.{Drafted, draft, refuse, Said, said, is_value, is_from1_to, took_start, took_count, took_station, took_kind, took_first, took_second, took_turn, took_at, made_call, ended_at, call_from, turn_from, call_made, turn_made, lacking_at}
 use Rattle.drafting.specs.Scan.{Scanned, empty, word_ended, line_ended, step_on, step, run, given, is_blank, no_scan}
 use Rattle.drafting.specs.Parse.{last_draft, lacking, table_in, turns_in}
 use Rattle.drafting.proofs.Records.{good_call, call_before, call_last}
@@ -69,32 +69,32 @@ Here Second n q t c = Stationed n c × ((0 < c.kind) × ((c.kind ≤ 2) × (c.a 
 Here AfterCall n q t c = Peopled n × GoodCall n c
 Here Turn n q t c = Peopled n
 
-abbrev At : Stage → Draft → Type 0
+abbrev At : Stage → Drafted → Type 0
 At stage d = Here stage d.n d.q d.t d.call
 
-abbrev Sane : Draft → List ℕ → List ℕ → Type 0
+abbrev Sane : Drafted → List ℕ → List ℕ → Type 0
 Sane d table turns = Common d.x d.n d.q d.t table turns × At d.stage d
 
 -- nothing is added where the count is the same
-pub no_call_made : (q : ℕ) (d : Draft) → q ≡ d.q → call_from q d ≡ []
+pub no_call_made : (q : ℕ) (d : Drafted) → q ≡ d.q → call_from q d ≡ []
 unfolding call_from
 no_call_made q d e = rw (eq-eqb q d.q e)
 
-pub no_turn_made : (t : ℕ) (d : Draft) → t ≡ d.t → turn_from t d ≡ []
+pub no_turn_made : (t : ℕ) (d : Drafted) → t ≡ d.t → turn_from t d ≡ []
 unfolding turn_from
 no_turn_made t d e = rw (eq-eqb t d.t e)
 
 -- what a draft adds to the turns goes by its count and by its last call
-same_turn : (d d₁ d₂ : Draft) → d₂.t ≡ d₁.t → d₂.call ≡ d₁.call → turn_made d d₁ ≡ turn_made d d₂
+same_turn : (d d₁ d₂ : Drafted) → d₂.t ≡ d₁.t → d₂.call ≡ d₁.call → turn_made d d₁ ≡ turn_made d d₂
 unfolding turn_from
 same_turn d d₁ d₂ e f = rw (e, f)
 
 module _ (table turns : List ℕ) where
-  kept : (d d' : Draft) → d.t ≡ d'.t → Sane d' table turns → Sane d' table (turns ++ turn_made d d')
+  kept : (d d' : Drafted) → d.t ≡ d'.t → Sane d' table turns → Sane d' table (turns ++ turn_made d d')
   kept d d' e s = rw (no_turn_made d.t d' e, append-nil) s
 
   -- from one draft to the next but one
-  joined : (d d₁ d₂ : Draft) → d₁.q ≡ d.q → d₂.t ≡ d₁.t → d₂.call ≡ d₁.call
+  joined : (d d₁ d₂ : Drafted) → d₁.q ≡ d.q → d₂.t ≡ d₁.t → d₂.call ≡ d₁.call
       → Sane d₂ (table ++ call_made d₁ d₂) (turns ++ turn_made d d₁) → Sane d₂ (table ++ call_made d d₂) (turns ++ turn_made d d₂)
   joined d d₁ d₂ e f k h =
       subst (λ v. Sane d₂ (table ++ v) (turns ++ turn_made d d₂)) (ap (λ q. call_from q d₂) e)
@@ -106,11 +106,11 @@ module _ (table turns : List ℕ) where
       record { value = v; calls = c.calls; moves = c.moves; few_calls = c.few_calls; few_moves = c.few_moves; good_calls = λ i h. absurd (omega arith); good_turns = λ i h. absurd (omega arith) }
 
 -- a word more
-module _ (d : Draft) (w : Said) (table turns : List ℕ) (c : Common d.x d.n d.q d.t table turns) where
-  abbrev P : Draft → Type 0
+module _ (d : Drafted) (w : Said) (table turns : List ℕ) (c : Common d.x d.n d.q d.t table turns) where
+  abbrev P : Drafted → Type 0
   P d' = (d'.q ≡ d.q) × Sane d' table (turns ++ turn_made d d')
 
-  same : (d' : Draft) → d.t ≡ d'.t → d'.q ≡ d.q → Sane d' table turns → P d'
+  same : (d' : Drafted) → d.t ≡ d'.t → d'.q ≡ d.q → Sane d' table turns → P d'
   same d' e f s = (f, kept table turns d d' e s)
 
   stay : At d.stage d → (k : ℕ) → P (refuse d k)
@@ -204,11 +204,11 @@ module _ (d : Draft) (w : Said) (table turns : List ℕ) (c : Common d.x d.n d.q
       (λ g. stay (rw (← e) h) 8))
 
 -- the end of a line
-module _ (d : Draft) (table turns : List ℕ) (c : Common d.x d.n d.q d.t table turns) where
-  abbrev Q : Draft → Type 0
+module _ (d : Drafted) (table turns : List ℕ) (c : Common d.x d.n d.q d.t table turns) where
+  abbrev Q : Drafted → Type 0
   Q d' = (d'.t ≡ d.t) × ((d'.call ≡ d.call) × Sane d' (table ++ call_made d d') turns)
 
-  no_more : (d' : Draft) → d.q ≡ d'.q → d'.t ≡ d.t → d'.call ≡ d.call → Sane d' table turns → Q d'
+  no_more : (d' : Drafted) → d.q ≡ d'.q → d'.t ≡ d.t → d'.call ≡ d.call → Sane d' table turns → Q d'
   no_more d' e f k s = (f, (k, rw (no_call_made d.q d' e, append-nil) s))
 
   lacks : At d.stage d → (k : ℕ) → Q (refuse d k)
@@ -259,11 +259,11 @@ module _ (d : Draft) (table turns : List ℕ) (c : Common d.x d.n d.q d.t table 
 
 -- a byte more
 module _ (s : Scanned) (table turns : List ℕ) (y : Sane s.draft table turns) where
-  abbrev d : Draft
+  abbrev d : Drafted
   d = s.draft
 
   -- what is given from one draft to the next
-  abbrev R : Draft → Type 0
+  abbrev R : Drafted → Type 0
   R d' = Sane d' (table ++ call_made d d') (turns ++ turn_made d d')
 
   idle : R s.draft
@@ -345,7 +345,7 @@ lacks_none expected k =
     by_cond (λ r. r ≡ 0 → k ≡ 0) (eqb expected 0) (λ t h. h) (λ f h. absurd (eqb-false expected 0 f h))
 
 module _ (text : List ℕ) where
-  abbrev e : Draft
+  abbrev e : Drafted
   e = last_draft text
 
   -- the rows are never longer than those of the largest run

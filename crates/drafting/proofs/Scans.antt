@@ -5,7 +5,7 @@ use Prim.Native.Nat.{ℕ, ◌+◌, ◌<◌}
 use native.Mathlib.Numerals.{add-one}
 use lib.ListN.{length, get_or, take}
 use lib.Seq.{take-suc}
-use Rattle.drafting.specs.declared.Draft.{Draft}
+use Rattle.drafting.specs.Draft.{Drafted}
 use Rattle.drafting.specs.Scan.{Scanned, step, run, given}
 
 pub run_both : (s : Scanned) (xs ys : List ℕ) → run s (xs ++ ys) ≡ run (run s xs) ys
@@ -13,7 +13,7 @@ unfolding run
 run_both s [] ys = refl
 run_both s (x ∷ xs) ys = run_both (step s x) xs ys
 
-pub given_both : (made : Draft → Draft → List ℕ) (s : Scanned) (xs ys : List ℕ)
+pub given_both : (made : Drafted → Drafted → List ℕ) (s : Scanned) (xs ys : List ℕ)
     → given made s (xs ++ ys) ≡ given made s xs ++ given made (run s xs) ys
 unfolding run given
 given_both made s [] ys = refl
@@ -35,7 +35,7 @@ module _ (s : Scanned) (text : List ℕ) (i : ℕ) (h : i < length text) where
   unfolding run
   run_more = ap (run s) more ∙ run_both s (take i text) (get_or text i 0 ∷ [])
 
-  pub given_more : (made : Draft → Draft → List ℕ)
+  pub given_more : (made : Drafted → Drafted → List ℕ)
       → given made s (take (i + 1) text)
       ≡ given made s (take i text) ++ made (run s (take i text)).draft (step (run s (take i text)) (get_or text i 0)).draft
   unfolding given

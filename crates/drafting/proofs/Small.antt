@@ -12,18 +12,17 @@ use Rattle.runfile.specs.Reading.{longest}
 use Rattle.runtext.specs.Letters.{start_word, stations_word, turns_word}
 use Rattle.drafting.specs.declared.Stage.{Stage}
 use Rattle.drafting.specs.declared.Stage.TheVariants.{Start, StartValue, AfterStart, Stations, Count, AfterCount, Call, Kind, First, Second, AfterCall, Turn}
-use Rattle.drafting.specs.declared.Draft.{Draft}
-use Rattle.drafting.specs.Draft.{Said, said, is_value, is_from1_to, took_start, took_count, took_station, took_kind, took_first, took_second, took_turn, took_at, made_call, ended_at, lacking_at}
+use Rattle.drafting.specs.Draft.{Drafted, Said, said, is_value, is_from1_to, took_start, took_count, took_station, took_kind, took_first, took_second, took_turn, took_at, made_call, ended_at, lacking_at}
 use Rattle.drafting.specs.Scan.{Scanned, no_scan, empty, word_ended, line_ended, is_blank, step_on, step, run}
 use Rattle.drafting.specs.Parse.{last_draft, lacking, length_in, parse_of}
 use Rattle.drafting.specs.Promise.{ParseEnough}
 use Rattle.drafting.proofs.Sane.{by_cond, table_fits, turns_fit}
 
-abbrev Few : Draft → Type 0
+abbrev Few : Drafted → Type 0
 Few d = d.expected ≤ 10
 
 -- a word more
-module _ (d : Draft) (w : Said) (h : Few d) where
+module _ (d : Drafted) (w : Said) (h : Few d) where
   took : (stage : Stage) → Few (took_at stage d w)
   unfolding took_at took_start took_count took_station took_kind took_first took_second took_turn
   took Start = by_cond Few (w.is start_word) (λ _. h) (λ _. omega arith)
@@ -42,7 +41,7 @@ module _ (d : Draft) (w : Said) (h : Few d) where
   took Turn = by_cond Few (leb turn_limit d.t) (λ _. omega arith) (λ _. by_cond Few (is_from1_to d.n w) (λ _. h) (λ _. omega arith))
 
 -- the end of a line
-over : (stage : Stage) (d : Draft) → Few d → Few (ended_at stage d)
+over : (stage : Stage) (d : Drafted) → Few d → Few (ended_at stage d)
 unfolding ended_at made_call
 over Start d h = h
 over StartValue d h = omega arith

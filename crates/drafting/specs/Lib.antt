@@ -1,6 +1,7 @@
 pub mod Draft
 pub mod Scan
-pub mod Coded
-pub mod Gather
+pub mod Expected
+pub mod Held
 pub mod Parse
+pub mod Gather
 pub mod Promise

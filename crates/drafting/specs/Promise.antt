@@ -1,13 +1,15 @@
 -- What is promised of texts as run files: a printed file is turned back into the same bytes, a text that is not refused tells a good
 -- run, a buffer of 53,264 bytes is always enough, and the contract settles all. Assumes nothing.
-use Rattle.std.specs.Prelude.{◌≡◌, List, ◌++◌, ℕ, ◌≤◌, length, take, drop}
+use Rattle.std.specs.Prelude.{◌≡◌, List, ◌++◌, ℕ, ◌≤◌, Result, length, take, drop}
 use Rattle.octets.specs.Bytes.{AllBytes}
 use Rattle.runfile.specs.Reading.{longest}
 use Rattle.runfile.specs.Promise.{Holds}
 use Rattle.rules.specs.Reason.{Numbers}
 use Rattle.runtext.specs.Text.{PrintedTo}
-use Rattle.drafting.specs.Parse.{Parsed}
-use Rattle.drafting.specs.Parse.{last_draft, table_in, turns_in, parsed, parse_of, ParsedTo}
+use Rattle.drafting.specs.declared.Expected.{Expected}
+use Rattle.drafting.specs.declared.Complaint.{Complaint}
+use Rattle.drafting.specs.Expected.{expected_number}
+use Rattle.drafting.specs.Parse.{last_draft, table_in, turns_in, Parsed, parsed, parsed_numbers, parse_of, ParsedTo}
 
 -- a file that was printed on a page, and the page's text parsed: the same bytes, given room
 pub record TurnedBack (file out : List ℕ) (answer : Parsed) (after : List ℕ) : Type 0 where
@@ -32,3 +34,8 @@ ParseEnough = (text : List ℕ) (room : ℕ) → longest ≤ room → (parse_of 
 -- two answers with their buffers that the contract allows for one input are the same
 unfoldable pub ParseSettled : Type 0
 ParseSettled = (text out : List ℕ) (a b : Parsed) (c d : List ℕ) → ParsedTo text out a c → ParsedTo text out b d → (a ≡ b) × (c ≡ d)
+
+-- no two things that can be expected have the same number, and no two answers the same numbers
+pub record NumbersTell : Type 0 where
+  pub expected : (d e : Expected) → expected_number d ≡ expected_number e → d ≡ e
+  pub answers : (r s : Result ℕ Complaint) → parsed_numbers r ≡ parsed_numbers s → r ≡ s

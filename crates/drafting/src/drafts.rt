@@ -1,282 +1,214 @@
-// What the words of a text say: a draft of the run, one word more at a time.
+// What the words of a text say: a draft of the run, one word more at a time, or what was expected in the word's place.
 ghost use Rattle.std.specs.Prelude.{◌≡◌};
-ghost use Rattle.drafting.specs.Coded.{code_said};
-ghost use Rattle.drafting.specs.Draft.{draft, to, refuse, with_call, keyword, took_start, took_count, took_station, took_kind, took_first, took_second, took_turn, took_at, made_call, ended_at, lacking_at};
+ghost use Rattle.drafting.specs.Draft.{said, keyword, with_call, took_start, took_count, took_station, took_kind, took_first, took_second, took_turn, took_at, made_call, ended_at, lacking_at};
+ghost use Rattle.drafting.specs.Expected.{expected_number};
 ghost use Rattle.drafting.specs.declared.Stage.TheVariants.{First};
+ghost use Rattle.drafting.specs.Held.{drafted, Drafts, Lacks};
 
-use crate::words::{NO_NUMBER, READ, SET, START, STATIONS, SWAP, TURNS};
-use crate::{Draft, Stage, Word};
+use crate::words::{from1_to, is, value};
+use crate::{Draft, Expected, Stage};
 use runfile::CallRecord;
-
-const MOST_STATIONS: u64 = rules::STATIONS as u64;
 
 const MOST_CALLS: usize = rules::CALLS as usize;
 
 const MOST_TURNS: usize = rules::TURNS as usize;
 
-fn with_call(d: Draft, stage: Stage, call: CallRecord) -> Draft
-    ensures { result ≡ draft d.expected stage d.x d.n d.q d.t call }
-{
-    Draft {
-        expected: d.expected,
-        stage,
-        x: d.x,
-        n: d.n,
-        q: d.q,
-        t: d.t,
-        call,
-    }
-}
-
-fn to(d: Draft, stage: Stage) -> Draft
-    ensures { result ≡ to d stage }
-{
-    let call = d.call;
-    with_call(d, stage, call)
-}
-
-fn refuse(d: Draft, expected: u32) -> Draft
-    ensures { result ≡ refuse d expected }
-{
-    let stage = d.stage;
-    let call = d.call;
-    Draft {
-        expected,
-        stage,
-        x: d.x,
-        n: d.n,
-        q: d.q,
-        t: d.t,
-        call,
-    }
-}
-
-fn keyword(d: Draft, there: bool, stage: Stage, expected: u32) -> Draft
-    ensures { result ≡ keyword d there stage expected }
+fn keyword(d: Draft, there: bool, stage: Stage, expected: Expected) -> Result<Draft, Expected>
+    ensures { Drafts result (keyword (drafted d) there stage (expected_number expected)) }
 {
     if there {
-        to(d, stage)
-    } else {
-        refuse(d, expected)
+        return Ok(Draft { stage, ..d });
     }
+    Err(expected)
 }
 
-fn took_start(d: Draft, w: Word) -> Draft
-    ensures { result ≡ took_start d (code_said w) }
+#[tactic(auto, unfolding(crate::specs::Draft::took_start))]
+fn took_start(d: Draft, w: &[u8]) -> Result<Draft, Expected>
+    ensures { Drafts result (took_start (drafted d) (said w.now)) }
 {
-    let call = d.call;
-    if w.number < NO_NUMBER {
-        return Draft {
-            expected: d.expected,
-            stage: Stage::AfterStart,
-            x: w.number as u32,
-            n: d.n,
-            q: d.q,
-            t: d.t,
-            call,
-        };
-    }
-    refuse(d, 2)
+    let x = value(w)?;
+    Ok(Draft {
+        stage: Stage::AfterStart,
+        x,
+        ..d
+    })
 }
 
-fn took_count(d: Draft, w: Word) -> Draft
-    ensures { result ≡ took_count d (code_said w) }
+#[tactic(auto, unfolding(crate::specs::Draft::took_count))]
+fn took_count(d: Draft, w: &[u8]) -> Result<Draft, Expected>
+    ensures { Drafts result (took_count (drafted d) (said w.now)) }
 {
-    let call = d.call;
-    if (0 < w.number) & (w.number <= MOST_STATIONS) {
-        return Draft {
-            expected: d.expected,
-            stage: Stage::AfterCount,
-            x: d.x,
-            n: w.number as u32,
-            q: d.q,
-            t: d.t,
-            call,
-        };
-    }
-    refuse(d, 5)
+    let n = from1_to(rules::STATIONS, w, Expected::StationCount)?;
+    Ok(Draft {
+        stage: Stage::AfterCount,
+        n,
+        ..d
+    })
 }
 
-fn took_station(d: Draft, w: Word) -> Draft
-    ensures { result ≡ took_station d (code_said w) }
+#[tactic(auto, unfolding(crate::specs::Draft::took_station))]
+fn took_station(d: Draft, w: &[u8]) -> Result<Draft, Expected>
+    ensures { Drafts result (took_station (drafted d) (said w.now)) }
 {
-    if w.code == TURNS {
-        return to(d, Stage::Turn);
+    if is(w, b"turns") {
+        return Ok(Draft {
+            stage: Stage::Turn,
+            ..d
+        });
     }
-    if (0 < w.number) & (w.number <= d.n as u64) {
-        let call = CallRecord {
-            station: w.number as u32,
-            kind: 0,
-            a: 0,
-            b: 0,
-        };
-        return with_call(d, Stage::Kind, call);
-    }
-    refuse(d, 6)
+    let station = from1_to(d.n, w, Expected::StationOrTurns)?;
+    Ok(Draft {
+        stage: Stage::Kind,
+        call: CallRecord {
+            station,
+            ..CallRecord::default()
+        },
+        ..d
+    })
 }
 
 fn with_kind(d: Draft, kind: u32) -> Draft
-    ensures { result ≡ with_call d First d.call.station kind 0 0 }
+    ensures { drafted result ≡ with_call (drafted d) First d.call.station kind 0 0 }
 {
-    let station = d.call.station;
-    let call = CallRecord {
-        station,
-        kind,
-        a: 0,
-        b: 0,
-    };
-    with_call(d, Stage::First, call)
+    Draft {
+        stage: Stage::First,
+        call: CallRecord {
+            station: d.call.station,
+            kind,
+            ..CallRecord::default()
+        },
+        ..d
+    }
 }
 
-fn took_kind(d: Draft, w: Word) -> Draft
-    ensures { result ≡ took_kind d (code_said w) }
+#[tactic(auto, unfolding(crate::specs::Draft::took_kind))]
+fn took_kind(d: Draft, w: &[u8]) -> Result<Draft, Expected>
+    ensures { Drafts result (took_kind (drafted d) (said w.now)) }
 {
-    if w.code == READ {
-        return to(d, Stage::AfterCall);
+    if is(w, b"read") {
+        return Ok(Draft {
+            stage: Stage::AfterCall,
+            ..d
+        });
     }
-    if w.code == SET {
-        return with_kind(d, 1);
+    if is(w, b"set") {
+        return Ok(with_kind(d, 1));
     }
-    if w.code == SWAP {
-        return with_kind(d, 2);
+    if is(w, b"swap") {
+        return Ok(with_kind(d, 2));
     }
-    refuse(d, 7)
+    Err(Expected::Kind)
 }
 
-fn took_first(d: Draft, w: Word) -> Draft
-    ensures { result ≡ took_first d (code_said w) }
+#[tactic(auto, unfolding(crate::specs::Draft::took_first))]
+fn took_first(d: Draft, w: &[u8]) -> Result<Draft, Expected>
+    ensures { Drafts result (took_first (drafted d) (said w.now)) }
 {
-    let c = d.call;
-    if w.number < NO_NUMBER {
-        let call = CallRecord {
-            station: c.station,
-            kind: c.kind,
-            a: w.number as u32,
-            b: 0,
-        };
-        return with_call(d, Stage::Second, call);
-    }
-    refuse(d, 2)
+    let a = value(w)?;
+    Ok(Draft {
+        stage: Stage::Second,
+        call: CallRecord { a, b: 0, ..d.call },
+        ..d
+    })
 }
 
-fn took_second(d: Draft, w: Word) -> Draft
-    ensures { result ≡ took_second d (code_said w) }
+#[tactic(auto, unfolding(crate::specs::Draft::took_second))]
+fn took_second(d: Draft, w: &[u8]) -> Result<Draft, Expected>
+    ensures { Drafts result (took_second (drafted d) (said w.now)) }
 {
-    let c = d.call;
-    if w.number < NO_NUMBER {
-        let call = CallRecord {
-            station: c.station,
-            kind: c.kind,
-            a: c.a,
-            b: w.number as u32,
-        };
-        return with_call(d, Stage::AfterCall, call);
-    }
-    refuse(d, 2)
+    let b = value(w)?;
+    Ok(Draft {
+        stage: Stage::AfterCall,
+        call: CallRecord { b, ..d.call },
+        ..d
+    })
 }
 
-fn took_turn(d: Draft, w: Word) -> Draft
-    ensures { result ≡ took_turn d (code_said w) }
+#[tactic(auto, unfolding(crate::specs::Draft::took_turn))]
+fn took_turn(d: Draft, w: &[u8]) -> Result<Draft, Expected>
+    ensures { Drafts result (took_turn (drafted d) (said w.now)) }
 {
     if MOST_TURNS <= d.t {
-        return refuse(d, 10);
+        return Err(Expected::FewerTurns);
     }
-    if (0 < w.number) & (w.number <= d.n as u64) {
-        let call = CallRecord {
-            station: w.number as u32,
-            kind: 0,
-            a: 0,
-            b: 0,
-        };
-        return Draft {
-            expected: d.expected,
-            stage: Stage::Turn,
-            x: d.x,
-            n: d.n,
-            q: d.q,
-            t: d.t + 1,
-            call,
-        };
-    }
-    refuse(d, 8)
+    let station = from1_to(d.n, w, Expected::Station)?;
+    Ok(Draft {
+        stage: Stage::Turn,
+        t: d.t + 1,
+        call: CallRecord {
+            station,
+            ..CallRecord::default()
+        },
+        ..d
+    })
 }
 
 // A word more.
-pub(crate) fn took(d: Draft, w: Word) -> Draft
-    ensures { result ≡ took_at d.stage d (code_said w) }
+#[tactic(auto, unfolding(crate::specs::Draft::took_at))]
+pub(crate) fn took(d: Draft, w: &[u8]) -> Result<Draft, Expected>
+    ensures { Drafts result (took_at d.stage (drafted d) (said w.now)) }
 {
-    let stage = d.stage;
-    match stage {
-        Stage::Start => keyword(d, w.code == START, Stage::StartValue, 1),
+    match d.stage {
+        Stage::Start => keyword(d, is(w, b"start"), Stage::StartValue, Expected::Start),
         Stage::StartValue => took_start(d, w),
-        Stage::AfterStart => refuse(d, 3),
-        Stage::Stations => keyword(d, w.code == STATIONS, Stage::Count, 4),
+        Stage::Stations => keyword(d, is(w, b"stations"), Stage::Count, Expected::Stations),
         Stage::Count => took_count(d, w),
-        Stage::AfterCount => refuse(d, 3),
         Stage::Call => took_station(d, w),
         Stage::Kind => took_kind(d, w),
         Stage::First => took_first(d, w),
         Stage::Second => took_second(d, w),
-        Stage::AfterCall => refuse(d, 3),
         Stage::Turn => took_turn(d, w),
+        Stage::AfterStart | Stage::AfterCount | Stage::AfterCall => Err(Expected::LineEnd),
     }
 }
 
-fn made_call(d: Draft) -> Draft
-    ensures { result ≡ made_call d }
+#[tactic(auto, unfolding(crate::specs::Draft::made_call))]
+fn made_call(d: Draft) -> Result<Draft, Expected>
+    ensures { Drafts result (made_call (drafted d)) }
 {
-    let call = d.call;
     if MOST_CALLS <= d.q {
-        return refuse(d, 9);
+        return Err(Expected::FewerCalls);
     }
-    Draft {
-        expected: d.expected,
+    Ok(Draft {
         stage: Stage::Call,
-        x: d.x,
-        n: d.n,
         q: d.q + 1,
-        t: d.t,
-        call,
-    }
+        ..d
+    })
 }
 
 // The line ends.
-pub(crate) fn ended(d: Draft) -> Draft
-    ensures { result ≡ ended_at d.stage d }
+#[tactic(auto, unfolding(crate::specs::Draft::ended_at))]
+pub(crate) fn ended(d: Draft) -> Result<Draft, Expected>
+    ensures { Drafts result (ended_at d.stage (drafted d)) }
 {
-    let stage = d.stage;
-    match stage {
-        Stage::Start => d,
-        Stage::StartValue => refuse(d, 2),
-        Stage::AfterStart => to(d, Stage::Stations),
-        Stage::Stations => d,
-        Stage::Count => refuse(d, 5),
-        Stage::AfterCount => to(d, Stage::Call),
-        Stage::Call => d,
-        Stage::Kind => refuse(d, 7),
-        Stage::First => refuse(d, 2),
-        Stage::Second => refuse(d, 2),
+    match d.stage {
+        Stage::Start | Stage::Stations | Stage::Call | Stage::Turn => Ok(d),
+        Stage::StartValue | Stage::First | Stage::Second => Err(Expected::Value),
+        Stage::AfterStart => Ok(Draft {
+            stage: Stage::Stations,
+            ..d
+        }),
+        Stage::Count => Err(Expected::StationCount),
+        Stage::AfterCount => Ok(Draft {
+            stage: Stage::Call,
+            ..d
+        }),
+        Stage::Kind => Err(Expected::Kind),
         Stage::AfterCall => made_call(d),
-        Stage::Turn => d,
     }
 }
 
 // What the text lacks where it ends at this stage.
-pub(crate) fn lacking_at(stage: Stage) -> u32
-    ensures { result ≡ lacking_at stage }
+#[tactic(auto, unfolding(crate::specs::Draft::lacking_at))]
+pub(crate) fn lacking_at(stage: Stage) -> Result<(), Expected>
+    ensures { Lacks result (lacking_at stage) }
 {
     match stage {
-        Stage::Start => 1,
-        Stage::StartValue => 2,
-        Stage::AfterStart => 4,
-        Stage::Stations => 4,
-        Stage::Count => 5,
-        Stage::AfterCount => 0,
-        Stage::Call => 0,
-        Stage::Kind => 7,
-        Stage::First => 2,
-        Stage::Second => 2,
-        Stage::AfterCall => 0,
-        Stage::Turn => 0,
+        Stage::Start => Err(Expected::Start),
+        Stage::StartValue | Stage::First | Stage::Second => Err(Expected::Value),
+        Stage::AfterStart | Stage::Stations => Err(Expected::Stations),
+        Stage::Count => Err(Expected::StationCount),
+        Stage::Kind => Err(Expected::Kind),
+        Stage::AfterCount | Stage::Call | Stage::AfterCall | Stage::Turn => Ok(()),
     }
 }

@@ -3,6 +3,9 @@
 // gathering (what a text's calls and turns are) and parsing; promises (what is proved of printing and parsing together).
 #![tactic(auto)]
 
+ghost use Rattle.std.specs.Prelude.{◌≡◌};
+ghost use Rattle.drafting.specs.Expected.{expected_number};
+
 mod drafts;
 mod gathering;
 mod parsing;
@@ -11,24 +14,54 @@ mod scanning;
 mod words;
 
 pub use parsing::parse;
-pub use promises::{answer_is_settled, buffer_is_enough, printed_reads_back, texts_tell_good_runs};
+pub use promises::{
+    answer_is_settled, buffer_is_enough, numbers_tell_answers, printed_reads_back,
+    texts_tell_good_runs,
+};
 use runfile::CallRecord;
 
-// The line, from 1, and a number for what was expected there; line 0 with 14 for a buffer that is too short. Both are 0
-// where the file was written, and len is its number of bytes.
-#[derive(Clone, Copy)]
-pub struct Parsed {
-    pub line: usize,
-    pub expected: u32,
-    pub len: usize,
+// What was expected of a text that cannot be read; Room is a longer buffer.
+#[derive(Clone, Copy, PartialEq, Eq)]
+pub enum Expected {
+    Start,
+    Value,
+    LineEnd,
+    Stations,
+    StationCount,
+    StationOrTurns,
+    Kind,
+    Station,
+    FewerCalls,
+    FewerTurns,
+    Room,
 }
 
-// code is 0 where there is no word, and a number to the base 32 for a word of small letters; number is the word's value.
-// A code of NO_CODE or more is no word of the text, a number of NO_NUMBER or more no value.
-#[derive(Clone, Copy)]
-pub(crate) struct Word {
-    pub code: u64,
-    pub number: u64,
+impl Expected {
+    // The number that docs/RUN-TEXT.md gives it.
+    pub fn number(self) -> u32
+        ensures { result ≡ expected_number self }
+    {
+        match self {
+            Expected::Start => 1,
+            Expected::Value => 2,
+            Expected::LineEnd => 3,
+            Expected::Stations => 4,
+            Expected::StationCount => 5,
+            Expected::StationOrTurns => 6,
+            Expected::Kind => 7,
+            Expected::Station => 8,
+            Expected::FewerCalls => 9,
+            Expected::FewerTurns => 10,
+            Expected::Room => 14,
+        }
+    }
+}
+
+// The line, from 1, and what was expected there; line 0 for a buffer that is too short.
+#[derive(Clone, Copy, PartialEq, Eq)]
+pub struct Complaint {
+    pub line: usize,
+    pub expected: Expected,
 }
 
 // The word that comes next, or that the line has to end.
@@ -48,11 +81,9 @@ pub(crate) enum Stage {
     Turn,
 }
 
-// expected is 0 as long as nothing is refused. q and t count the calls and turns so far; call is the last of them, of which
-// a turn has the station alone.
+// q and t count the calls and turns so far; call is the last of them, of which a turn has the station alone.
 #[derive(Clone, Copy)]
 pub(crate) struct Draft {
-    pub expected: u32,
     pub stage: Stage,
     pub x: u32,
     pub n: u32,
@@ -61,11 +92,18 @@ pub(crate) struct Draft {
     pub call: CallRecord,
 }
 
-// The line from 1, whether the rest of it is a comment, the word so far, and what was said before it.
+// Between words, in a comment, or in the word that begins at a place of the text.
+#[derive(Clone, Copy)]
+pub(crate) enum Within {
+    Blank,
+    Comment,
+    Word(usize),
+}
+
+// The line from 1, where in it the text has come, and what was said before the word so far.
 #[derive(Clone, Copy)]
 pub(crate) struct Scan {
     pub line: usize,
-    pub comment: bool,
-    pub word: Word,
+    pub within: Within,
     pub draft: Draft,
 }

@@ -1,5 +1,5 @@
 // What is proved of parsing, and of printing and parsing together; each function stands for the promise that it ensures.
-ghost use Rattle.drafting.specs.Promise.{PrintedReadsBack, TextsTellGoodRuns, ParseEnough, ParseSettled};
+ghost use Rattle.drafting.specs.Promise.{PrintedReadsBack, TextsTellGoodRuns, ParseEnough, ParseSettled, NumbersTell};
 
 // A file that was printed is turned back into the same bytes.
 pub fn printed_reads_back()
@@ -19,4 +19,9 @@ pub fn buffer_is_enough()
 // The contract of parsing allows one answer and one buffer for each input.
 pub fn answer_is_settled()
     ensures { ParseSettled }
+{}
+
+// An answer's numbers tell the answer: its line and what was expected there, or its length.
+pub fn numbers_tell_answers()
+    ensures { NumbersTell }
 {}

@@ -1,123 +1,110 @@
-// A text byte by byte: where its words and lines end. A scan keeps its word as two numbers; what is ensured of it is ensured for
-// whatever bytes they are the numbers of.
-ghost use Rattle.std.specs.Prelude.{◌≡◌, false};
-ghost use Rattle.drafting.specs.Draft.{no_draft};
-ghost use Rattle.drafting.specs.Coded.{no_word, code_scan, coded_scan, OfBytes};
-ghost use Rattle.drafting.specs.Scan.{word_ended, line_ended, next_line, is_blank, step_on, step};
+// A text byte by byte: where its words and lines end.
+ghost use Rattle.std.specs.Prelude.{◌≡◌, ◌+◌, ◌<◌, ◌≤◌, List, ℕ, get_or, length};
+ghost use Rattle.drafting.specs.Held.{in_comment, scanned, Begun, Between, Drafts, Letters, Scans};
+ghost use Rattle.drafting.specs.Scan.{no_scan, word_ended, line_ended, is_blank, step};
 
 use crate::drafts::{ended, took};
-use crate::words::grown;
-use crate::{Draft, Scan, Stage, Word};
+use crate::{Draft, Expected, Scan, Stage, Within};
 use runfile::CallRecord;
-
-const LAST_LINE: usize = 18446744073709551615;
 
 // Before the first byte.
 pub(crate) fn fresh() -> Scan
-    ensures { result ≡ code_scan 1 false no_word no_draft }
+    ensures { (text : List ℕ) → (scanned text 0 result ≡ no_scan) × Begun 0 result.within }
 {
-    let call = CallRecord {
-        station: 0,
-        kind: 0,
-        a: 0,
-        b: 0,
-    };
-    let draft = Draft {
-        expected: 0,
-        stage: Stage::Start,
-        x: 0,
-        n: 0,
-        q: 0,
-        t: 0,
-        call,
-    };
-    between(1, false, draft)
-}
-
-// No word so far.
-fn between(line: usize, comment: bool, draft: Draft) -> Scan
-    ensures { result ≡ code_scan line comment no_word draft }
-{
-    let word = Word { code: 0, number: 0 };
     Scan {
-        line,
-        comment,
-        word,
-        draft,
+        line: 1,
+        within: Within::Blank,
+        draft: Draft {
+            stage: Stage::Start,
+            x: 0,
+            n: 0,
+            q: 0,
+            t: 0,
+            call: CallRecord::default(),
+        },
     }
 }
 
-fn word_ended(s: Scan) -> Draft
-    ensures { OfBytes s (λ t. result ≡ word_ended t) }
+// What was said when a word ends at place i.
+#[tactic(auto, using(crate::proofs::Letters::some_word), unfolding(crate::specs::Scan::word_ended, crate::specs::Scan::empty))]
+fn word_ended(text: &[u8], s: Scan, i: usize) -> Result<Draft, Expected>
+    requires { (i ≤ length text.now) × Begun i s.within }
+    ensures { Drafts result (word_ended (scanned text.now i s)) }
 {
-    let w = s.word;
-    let d = s.draft;
-    if w.code == 0 {
-        return d;
+    match s.within {
+        Within::Word(start) => took(s.draft, &text[start..i]),
+        Within::Blank | Within::Comment => Ok(s.draft),
     }
-    took(d, w)
 }
 
-// What was said when the line ends here.
-pub(crate) fn line_ended(s: Scan) -> Draft
-    ensures { OfBytes s (λ t. result ≡ line_ended t) }
+// What was said when the line ends at place i.
+#[tactic(auto, unfolding(crate::specs::Scan::line_ended))]
+pub(crate) fn line_ended(text: &[u8], s: Scan, i: usize) -> Result<Draft, Expected>
+    requires { (i ≤ length text.now) × Begun i s.within }
+    ensures { Drafts result (line_ended (scanned text.now i s)) }
 {
-    let d = word_ended(s);
-    if d.expected != 0 {
-        return d;
-    }
+    let d = word_ended(text, s, i)?;
     ended(d)
-}
-
-fn next_line(line: usize, d: Draft) -> usize
-    ensures { result ≡ next_line line d }
-{
-    if (d.expected != 0) | (line == LAST_LINE) {
-        return line;
-    }
-    line + 1
 }
 
 fn is_blank(b: u8) -> bool
     ensures { result ≡ is_blank b }
 {
-    (b == 32) | ((b == 9) | (b == 13))
+    matches!(b, b' ' | b'\t' | b'\r')
 }
 
-fn step_on(s: Scan, b: u8) -> Scan
-    ensures { OfBytes s (λ t. result ≡ coded_scan (step_on t b)) }
+// A byte between words, or the one with which a comment begins.
+fn between(text: &[u8], s: Scan, i: usize, within: Within) -> Result<Scan, Expected>
+    requires { (i ≤ length text.now) × Begun i s.within }
+    ensures { Between result s.line within (word_ended (scanned text.now i s)) }
 {
-    let d = s.draft;
-    let w = s.word;
-    if b == 10 {
-        let e = line_ended(s);
-        return between(next_line(s.line, e), false, e);
-    }
-    if s.comment {
-        return s;
-    }
-    if b == 35 {
-        return between(s.line, true, word_ended(s));
-    }
-    if is_blank(b) {
-        return between(s.line, false, word_ended(s));
-    }
-    let word = grown(w, b);
-    Scan {
-        line: s.line,
-        comment: false,
-        word,
-        draft: d,
+    let draft = word_ended(text, s, i)?;
+    Ok(Scan { within, draft, ..s })
+}
+
+fn in_comment(within: Within) -> bool
+    ensures { result ≡ in_comment within }
+{
+    matches!(within, Within::Comment)
+}
+
+// A byte of a word, its first or one more.
+#[tactic(auto, using(crate::proofs::Letters::word_more, crate::proofs::Letters::word_new))]
+fn in_word(s: Scan, i: usize) -> Scan
+    requires { Begun i s.within }
+    ensures { Letters i s result }
+{
+    match s.within {
+        Within::Word(_) => s,
+        _ => Scan {
+            within: Within::Word(i),
+            ..s
+        },
     }
 }
 
-// A byte more; past a refusal nothing changes.
-pub(crate) fn step(s: Scan, b: u8) -> Scan
-    ensures { OfBytes s (λ t. result ≡ coded_scan (step t b)) }
+// A byte more: the one at place i.
+pub(crate) fn step(text: &[u8], s: Scan, i: usize) -> Result<Scan, Expected>
+    requires { (i < length text.now) × Begun i s.within }
+    ensures { Scans text.now (i + 1) s.line result (step (scanned text.now i s) (get_or text.now i 0)) }
 {
-    let d = s.draft;
-    if d.expected != 0 {
-        return s;
+    if text[i] == b'\n' {
+        let draft = line_ended(text, s, i)?;
+        let line = s.line.saturating_add(1);
+        return Ok(Scan {
+            line,
+            within: Within::Blank,
+            draft,
+        });
     }
-    step_on(s, b)
+    if in_comment(s.within) {
+        return Ok(s);
+    }
+    if text[i] == b'#' {
+        return between(text, s, i, Within::Comment);
+    }
+    if is_blank(text[i]) {
+        return between(text, s, i, Within::Blank);
+    }
+    Ok(in_word(s, i))
 }

@@ -1,51 +1,42 @@
-// The word so far, as a code and as a number, so that it needs no place to be kept.
+// Words of the text: whether a word is the one that is spelled so, and the number that it has to be.
 ghost use Rattle.std.specs.Prelude.{◌≡◌};
-ghost use Rattle.drafting.specs.Draft.{number_more};
-ghost use Rattle.drafting.specs.Coded.{code_more, grown};
+ghost use Rattle.script.specs.Number.{as_number};
+ghost use Rattle.drafting.specs.Draft.{number_from, same_bytes, said, is_value, is_from1_to};
+ghost use Rattle.drafting.specs.Expected.{expected_number};
+ghost use Rattle.drafting.specs.Held.{Numbered};
 
-use crate::Word;
+use crate::Expected;
 
-const NO_CODE: u64 = 1099511627776;
-
-pub(crate) const NO_NUMBER: u64 = 4294967296;
-
-pub(crate) const START: u64 = 20579924;
-
-pub(crate) const STATIONS: u64 = 674364702163;
-
-pub(crate) const READ: u64 = 594980;
-
-pub(crate) const SET: u64 = 19636;
-
-pub(crate) const SWAP: u64 = 646192;
-
-pub(crate) const TURNS: u64 = 21678547;
-
-fn code_more(code: u64, b: u64) -> u64
-    ensures { result ≡ code_more code b }
+#[tactic(auto, using(crate::proofs::Letters::pointwise_same))]
+pub(crate) fn is(word: &[u8], text: &[u8]) -> bool
+    ensures { result ≡ same_bytes word.now text.now }
 {
-    if ((97 <= b) & (b <= 122)) & (code < NO_CODE) {
-        return 32 * code + (b - 96);
-    }
-    NO_CODE
+    word == text
 }
 
-fn number_more(number: u64, b: u64) -> u64
-    ensures { result ≡ number_more number b }
+#[tactic(auto, unfolding(crate::specs::Draft::number_from))]
+fn number(word: &[u8]) -> Option<u32>
+    ensures { result ≡ as_number (number_from 0 word.now) }
 {
-    if ((48 <= b) & (b <= 57)) & (number < NO_NUMBER) {
-        return 10 * number + (b - 48);
+    let mut number = Some(0);
+    for b in word {
+        number = script::number_more(number, *b);
     }
-    NO_NUMBER
+    number
 }
 
-// A byte more of the word.
-pub(crate) fn grown(w: Word, b: u8) -> Word
-    ensures { result ≡ grown w b }
+pub(crate) fn value(word: &[u8]) -> Result<u32, Expected>
+    ensures { Numbered result (is_value (said word.now)) (number_from 0 word.now) 2 }
 {
-    let x = octets::wide(b) as u64;
-    Word {
-        code: code_more(w.code, x),
-        number: number_more(w.number, x),
+    number(word).ok_or(Expected::Value)
+}
+
+// A number from 1 to most.
+pub(crate) fn from1_to(most: u32, word: &[u8], expected: Expected) -> Result<u32, Expected>
+    ensures { Numbered result (is_from1_to most (said word.now)) (number_from 0 word.now) (expected_number expected) }
+{
+    match number(word) {
+        Some(x) if (0 < x) & (x <= most) => Ok(x),
+        _ => Err(expected),
     }
 }

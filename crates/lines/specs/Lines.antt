@@ -1,6 +1,7 @@
 -- Document 01, "Report": a line for each listed call, and a last line. One space between fields, one newline after each line, decimal without leading zeros.
 -- Assumes nothing.
-use Rattle.std.specs.Prelude.{cond, not, List, [], ◌++◌, ℕ, zero, suc, eqb, get_or}
+use Rattle.std.specs.Prelude.{cond, not, List, [], ◌++◌, Option, None, Some, ℕ, zero, suc, eqb, get_or}
+use Rattle.std.specs.Bool.{then_some}
 use Rattle.script.specs.Quote.{quote}
 use Rattle.script.specs.Decimal.{decimal}
 use Rattle.script.specs.Kind.{kind_word}
@@ -20,9 +21,12 @@ abbrev pub spaced_number : ℕ → List ℕ
 spaced_number x = spaced (decimal x)
 
 -- true or false for set, a number for read and swap, `open` if not ended
-unfoldable pub answer_word : Line → List ℕ
-answer_word l =
-    cond l.ended (cond (eqb l.kind 1) (cond (eqb l.answer 0) (quote "false") (quote "true")) (decimal l.answer)) (quote "open")
+unfoldable pub answered : ℕ → Option ℕ → List ℕ
+answered kind None = quote "open"
+answered kind (Some answer) = cond (eqb kind 1) (cond (eqb answer 0) (quote "false") (quote "true")) (decimal answer)
+
+abbrev pub answer_word : Line → List ℕ
+answer_word l = answered l.kind l.answer
 
 -- list place, station, call number in the table, kind, answer, own turns so far, turn of its point
 unfoldable pub line_text : Line → List ℕ
@@ -38,8 +42,7 @@ line_of table b place c =
       station = (call_of table c).station;
       call = c;
       kind = (call_of table c).kind;
-      ended = not (eqb (get_or b.last c 0) 0);
-      answer = get_or b.result c 0;
+      answer = then_some (not (eqb (get_or b.last c 0) 0)) (get_or b.result c 0);
       own = get_or b.own c 0;
       point = get_or b.point c 0;
     }

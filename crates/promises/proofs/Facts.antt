@@ -14,8 +14,9 @@ use Rattle.card.specs.Word.{revision_a, claim_word}
 use Rattle.method.specs.declared.Place.{Place}
 use Rattle.method.specs.declared.Place.TheVariants.{Rest, At11, At12, At13, At14, At15, At16, At18, At19, At20}
 use Rattle.method.specs.declared.Station.{Station}
-use Rattle.method.specs.declared.Answer.TheVariants.{Idle, Going, Ended}
-use Rattle.method.specs.Record.{at_rest, call, station, resting}
+use Rattle.method.specs.declared.Answer.{Answer}
+use Rattle.method.specs.declared.Answer.TheVariants.{Idle, Going, Ended, Refused}
+use Rattle.method.specs.Record.{at_rest, call, station, resting, told}
 use Rattle.method.specs.Table.{handed, begun, grown, sees, goes, row}
 use Rattle.bench.specs.declared.Bench.{Bench}
 use Rattle.bench.specs.Record.{station_at, put_station, turned, on_bench}
@@ -53,6 +54,18 @@ rests t e f =
     λ j. station (p j) (call (f.1.0 j) (f.1.1.0 j) (f.1.1.1.0 j)) (f.1.1.1.1.0 j) (f.0 j) t.c (claim (g.0 j) (g.1.0 j) (g.1.1.0 j))
     (halves (g.1.1.1.0 j) (g.1.1.1.1.0 j))
 
+-- an answer by which a call neither goes on nor ends, on the bench as it was
+quiet : (w : Bench) (u : Turn) (p : Place) (x : Answer) → ((told x).case ≡ 1 → ⊥) → ((told x).case ≡ 2 → ⊥) → Shown w u p (turned x w)
+quiet w u p x g e =
+    record {
+      begins = λ r n. absurd (g n);
+      goes = λ r n. absurd (g n);
+      others = λ j ne. refl;
+      hands = λ r n. absurd (e n);
+      at_once = λ r n. absurd (e n);
+      ends = λ n. absurd (e n);
+    }
+
 module _ (w : Bench) (u : Turn) (inside : u.station < length w.stations) where
   abbrev i : ℕ
   i = u.station
@@ -80,7 +93,7 @@ module _ (w : Bench) (u : Turn) (inside : u.station < length w.stations) where
 
   -- a station at rest whose turn is idle, ends its call at once, or goes past place 5
   idles : Shown w u Rest (turned Idle w)
-  idles = record { begins = λ r n. absurd (omega arith); goes = λ r n. absurd (omega arith); others = λ j ne. refl; hands = λ r n. absurd (omega arith); at_once = λ r n. absurd (omega arith); ends = λ n. absurd (omega arith) }
+  idles = quiet w u Rest Idle (λ n. omega arith) (λ n. omega arith)
 
   at_once_lem : (r o : ℕ) → t ≡ resting t.c → (u.kind ≡ 2 → r ≡ w.v.second) → Shown w u Rest (turned (Ended r o) w)
   at_once_lem r o e q = record { begins = λ r n. absurd (omega arith); goes = λ r n. absurd (true≢false r); others = λ j ne. refl; hands = λ r n. absurd (true≢false r); at_once = λ r n s. q s; ends = λ n. e }
@@ -137,7 +150,7 @@ turn_shown w u l s =
     let t = station_at w i in
     let f = facts w s in
     by_turn (Shown w u t.place) w u
-    (λ number. record { begins = λ r n. absurd (omega arith); goes = λ r n. absurd (omega arith); others = λ j ne. refl; hands = λ r n. absurd (omega arith); at_once = λ r n. absurd (omega arith); ends = λ n. absurd (omega arith) })
+    (λ number. quiet w u t.place (Refused number) (λ n. omega arith) (λ n. omega arith))
     (λ k.
     let h : i < 33 = omega (arith, k.high, f.head.0.1.0) in
     shown w u (omega arith) t.place (λ e. rests t e (rw e at (f.station i h).stands.rest)))

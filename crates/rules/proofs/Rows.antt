@@ -1,5 +1,5 @@
--- What a table of rows gives: nothing exactly where no row holds, a row's own K with its number, and of two tables one after the other the first's. Assumes nothing.
-use mathlib.Core.Path.{◌≡◌, refl, ◌∙◌, sym, ap}
+-- What a table of rows gives: nothing exactly where no row holds, and a row's own K with its number. Assumes nothing.
+use mathlib.Core.Path.{◌≡◌, refl, sym}
 use mathlib.Core.Bool.{true, false, cond, not}
 use mathlib.Core.List.{List, [], ◌∷◌, ◌++◌}
 use Prim.Native.Nat.{ℕ, ◌<◌}
@@ -53,22 +53,6 @@ silent rs p e = none_given rs (clear rs p e)
 pub chosen : {X : Type 0} (number : X → ℕ) (v : Verdict) (good bad : X) {w : ℕ}
     → (v.refused ≡ 0 → number good ≡ w) → number bad ≡ w → number (cond (eqb v.refused 0) good bad) ≡ w
 chosen number v good bad g b = either_way (eqb v.refused 0) (λ t. rw t (g (eqb-true v.refused 0 t))) (λ u. rw u b)
-
--- of two tables one after the other, the second is looked at where the first gives nothing
-after : (rs qs : List Row) → proper (refusals rs) ≡ true
-    → verdict_of (rs ++ qs) ≡ cond (eqb (verdict_of rs).refused 0) (verdict_of qs) (verdict_of rs)
-after [] qs p = refl
-after (r ∷ rs) qs p =
-    either_way r.holds
-    (λ t. rw (t, ne_eqb r.number 0 (λ z. omega (arith, (top r rs p).above))))
-    (λ f. rw f (after rs qs (top r rs p).rest))
-
-module _ (rs qs : List Row) (p : proper (refusals rs) ≡ true) {v : Verdict} (e : v ≡ verdict_of rs) where
-  pub stopped : (v.refused ≡ 0 → ⊥) → v ≡ verdict_of (rs ++ qs)
-  stopped h = e ∙ sym (after rs qs p ∙ rw (ne_eqb (verdict_of rs).refused 0 (λ z. h (ap (λ w. w.refused) e ∙ z))))
-
-  pub passed : v.refused ≡ 0 → verdict_of (rs ++ qs) ≡ verdict_of qs
-  passed h = after rs qs p ∙ rw (eq-eqb (verdict_of rs).refused 0 (sym (ap (λ w. w.refused) e) ∙ h))
 
 told : (rs : List Row) → (verdict_of rs).refused ≡ refusal_of (refusals rs)
 told [] = refl

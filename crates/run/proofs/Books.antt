@@ -1,18 +1,13 @@
 -- Changes of the book, one after the other, in the definitions and in the row. Assumes nothing.
 use mathlib.Core.Path.{◌≡◌, refl, ◌∙◌, sym, ap}
-use mathlib.Core.Bool.{Bool, true, false, not, ◌&&◌}
+use mathlib.Core.Bool.{Bool, true, false}
 use mathlib.Core.List.{List, [], ◌∷◌, ◌++◌}
-use Prim.Native.Nat.{ℕ, suc, ◌+◌, ◌<◌}
-use lib.Dec.{eqb}
+use Prim.Native.Nat.{ℕ, ◌+◌, ◌<◌}
 use lib.ListN.{get_or, set, length-set}
-use Rattle.method.specs.declared.Answer.{Answer}
-use Rattle.method.specs.declared.Answer.TheVariants.{Idle, Going, Ended, Refused}
 use Rattle.run.specs.declared.Tally.{Tally}
 use Rattle.run.specs.declared.Errand.{Errand}
-use Rattle.run.specs.declared.Operation.{Operation}
-use Rattle.run.specs.Book.{Book, acts, enters, all_enter, call_ends, waiters, acts_for, goes_on, unended}
+use Rattle.run.specs.Book.{Book, acts, enters, all_enter, call_ends, acts_for}
 use Rattle.run.specs.Row.{size_of, start_of, part_of, wrote, book_in, notes_by, on_book, point_count, RowFits, Becomes, HasPlaces}
-use Rattle.run.specs.Drive.{one_idle}
 use Rattle.run.proofs.Written.{written, read}
 use Rattle.run.proofs.Points.{within_set}
 
@@ -39,10 +34,10 @@ enter_all turn [] b = refl
 enter_all turn (j ∷ js) b = enter_all turn js (enters turn j b)
 
 -- some stations, and then some more
-then : (turn : ℕ) (xs ys : List ℕ) (b : Book) → all_enter turn (xs ++ ys) b ≡ all_enter turn ys (all_enter turn xs b)
+pub enter_more : (turn : ℕ) (xs ys : List ℕ) (b : Book) → all_enter turn (xs ++ ys) b ≡ all_enter turn ys (all_enter turn xs b)
 unfolding all_enter
-then turn [] ys b = refl
-then turn (x ∷ xs) ys b = then turn xs ys (enters turn x b)
+enter_more turn [] ys b = refl
+enter_more turn (x ∷ xs) ys b = enter_more turn xs ys (enters turn x b)
 
 pub acts_ended : (rests : Bool) (i c d turns : ℕ) (b : Book) → (acts rests i c d turns b).ended ≡ b.ended
 acts_ended true i c d turns b = refl
@@ -68,43 +63,6 @@ same_wait a = ap (λ m. m.wait) a.notes
 
 pub same_ended : {row row' : List ℕ} {s r : Tally} {f : Book → Book} → Becomes row s f row' r → r.ended ≡ (f (book_in row s)).ended
 same_ended a = ap (λ m. m.book.ended) a.notes
-
--- those that wait, station by station
-module _ (row : List ℕ) (s : Tally) (pid seq turn : ℕ) where
-  abbrev wait : List ℕ
-  wait = part_of row 6
-
-  -- those that wait among stations 1 to j have their point
-  abbrev pub Raised : ℕ → List ℕ → Tally → Type 0
-  Raised j row' r = Becomes row s (all_enter turn (waiters wait pid seq j)) row' r
-
-  pub none_yet : RowFits row s → Raised 0 row s
-  unfolding all_enter waiters
-  none_yet f = unchanged f
-
-  module _ (j : ℕ) (row' : List ℕ) (r : Tally) (before : Raised j row' r) where
-    abbrev test : Bool
-    test = not (eqb (suc j) pid) && eqb (get_or row' (5158 + suc j) 0) seq
-
-    same_test : suc j < size_of 6 → (not (eqb (suc j) pid) && eqb (get_or wait (suc j) 0) seq) ≡ test
-    unfolding start_of size_of
-    same_test h = ap (λ x. not (eqb (suc j) pid) && eqb x seq) (ap (λ l. get_or l (suc j) 0) (sym (same_wait before)) ∙ read row' 6 (suc j) h)
-
-    pub one_waits : (row'' : List ℕ) (u : Tally) → suc j < 33 → test ≡ true → Becomes row' r (enters turn (suc j)) row'' u → Raised (suc j) row'' u
-    unfolding all_enter waiters size_of
-    one_waits row'' u h e a =
-        same_change (λ b. rw (same_test h ∙ e) (sym (then turn (waiters wait pid seq j) (suc j ∷ []) b))) (and_then before a)
-
-    pub one_less : suc j < 33 → test ≡ false → Raised (suc j) row' r
-    unfolding all_enter waiters size_of
-    one_less h e = same_change (λ b. rw (same_test h ∙ e) (sym (then turn (waiters wait pid seq j) [] b))) before
-
--- the winner first
-pub winner_first : {row row' row'' : List ℕ} {s t u : Tally} (pid seq turn n : ℕ) → Becomes row s (enters turn pid) row' t → Raised row' t pid seq turn n row'' u
-    → Becomes row s (all_enter turn (pid ∷ waiters (part_of row 6) pid seq n)) row'' u
-unfolding all_enter
-winner_first {row} pid seq turn n a b =
-    same_change (λ x. ap (λ l. all_enter turn (waiters l pid seq n) (enters turn pid x)) (same_wait a)) (and_then a b)
 
 -- an operation of the errand's call, in the row
 module _ (row : List ℕ) (s : Tally) (e : Errand) (turns : ℕ) (f : RowFits row s) (h : HasPlaces e) where
@@ -186,21 +144,3 @@ module _ (row : List ℕ) (s : Tally) (turn c result : ℕ) (f : RowFits row s) 
           within = λ j. rw two (f.within j);
         };
       }
-
--- by a turn's answer
-module _ (row : List ℕ) (s : Tally) (x : Answer) (e : Errand) (o : Operation) (next wait : List ℕ) (f : RowFits row s) where
-  pub by_idle : (r : Tally) → x ≡ Idle → r ≡ one_idle s → Becomes row s (unended x e o next wait) row r
-  unfolding unended
-  by_idle r q t = rw (q, t) (record { notes = refl; fits = record { places = f.places; all = f.all; within = f.within } })
-
-  pub by_going : (row' : List ℕ) (r : Tally) → x ≡ Going → Becomes row s (goes_on e o next wait) row' r → Becomes row s (unended x e o next wait) row' r
-  unfolding unended
-  by_going row' r q a = rw q a
-
-  pub by_end : (result own : ℕ) → x ≡ Ended result own → Becomes row s (unended x e o next wait) row s
-  unfolding unended
-  by_end result own q = rw q (unchanged f)
-
-  pub by_refusal : (number : ℕ) → x ≡ Refused number → Becomes row s (unended x e o next wait) row s
-  unfolding unended
-  by_refusal number q = rw q (unchanged f)

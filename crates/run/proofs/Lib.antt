@@ -1,11 +1,10 @@
 pub mod Written
 pub mod Points
 pub mod Books
-pub mod Clears
+pub mod Ledgers
 pub mod Links
 pub mod Steps
 pub mod After
-pub mod Sizes
 pub mod Files
 pub mod Loop
 pub mod Start

@@ -1,18 +1,17 @@
 -- Whose next call is which, from the table's end down, in lists and in the row. Assumes nothing.
-use mathlib.Core.Path.{◌≡◌, refl, ◌∙◌, sym, ap}
-use mathlib.Core.Bool.{Bool, true, false, cond, not, ◌&&◌}
+use mathlib.Core.Path.{◌≡◌, ◌∙◌, sym, ap}
+use mathlib.Core.Bool.{cond}
 use mathlib.Core.List.{List}
 use Prim.Native.Nat.{ℕ, zero, suc, ◌+◌, ◌-◌, ◌<◌, ◌≤◌}
 use native.Mathlib.Omega.{arith}
 use native.Mathlib.Decide.{ℕ_discrete}
-use borrow.Author.Tests.{eq-eqb, ne_eqb, eqb-true, not-false}
-use Rattle.method.specs.Record.{call}
+use borrow.Author.Tests.{eq-eqb, ne_eqb}
 use lib.Dec.{eqb}
 use lib.ListN.{length, get_or, set, take, drop, replicate, get_or-replicate, length-set, length-replicate, replicate-append-replicate}
 use lib.Seq.{get_or-set_same, get_or-set_other, take_at, drop_at}
 use Rattle.runfile.specs.First.{first_from}
 use Rattle.runfile.specs.Layout.{records, call_of}
-use Rattle.run.specs.Calls.{call_after, offer, Linked}
+use Rattle.run.specs.Calls.{call_after, Linked}
 use Rattle.run.specs.Row.{by_station, size_of, start_of, row_places, zero_row, part_of, wrote}
 use Rattle.run.specs.Drive.{LinkedIn}
 use Rattle.run.proofs.Written.{in_order, written, read, long}
@@ -137,9 +136,3 @@ module _ (table row : List ℕ) (c : ℕ) (p : 0 < c) (h : c ≤ records table) 
         zeros = still_zero;
         linked = rw (two, is_head) (link_down table (part_of row 8) (part_of row 7) c p h (omega (arith, l)) (long row 7 k.places (omega arith)) o k.linked);
       }
-
--- where there is no call, or the station is in one, none is on offer
-pub none_on_offer : (table : List ℕ) (rests : Bool) (c : ℕ) → (rests && not (eqb c 0)) ≡ false → offer table (cond rests c 0) ≡ call 3 0 0
-unfolding call_of
-none_on_offer table false c e = refl
-none_on_offer table true c e = rw (eqb-true c 0 (not-false (eqb c 0) e))

@@ -1,7 +1,7 @@
 -- The run loop's invariant, and that one more turn keeps it. Assumes nothing.
 use mathlib.Core.Path.{◌≡◌, refl, ◌∙◌, sym, ap}
 use mathlib.Core.Logic.{⊎_elim}
-use mathlib.Core.Bool.{Bool, true, cond, ◌&&◌}
+use mathlib.Core.Bool.{Bool, true, false, cond, ◌&&◌}
 use mathlib.Core.List.{List}
 use Prim.Native.Nat.{ℕ, ◌+◌, ◌<◌, ◌≤◌}
 use native.Mathlib.Omega.{arith}
@@ -10,6 +10,8 @@ use borrow.Author.Tests.{eqb-true}
 use lib.Dec.{eqb}
 use lib.ListN.{length, get_or, set, drop}
 use lib.Seq.{drop-cons, drop-length, get_or-set_same}
+use Rattle.std.specs.Option.{unwrap_or}
+use Rattle.std.proofs.lemmas.Option.{none-some}
 use Rattle.rules.proofs.Facts.{either_way, and_left, and_right}
 use Rattle.method.specs.declared.Place.{Place}
 use Rattle.method.specs.declared.Place.TheVariants.{Rest, At11, At12, At13, At14, At15, At16, At18, At19, At20}
@@ -18,12 +20,16 @@ use Rattle.method.specs.declared.Station.{Station}
 use Rattle.method.specs.declared.Answer.{Answer}
 use Rattle.method.specs.declared.Answer.TheVariants.{Idle, Going, Ended, Refused}
 use Rattle.method.specs.Record.{at_rest, resting}
+use Rattle.method.specs.Effect.{raises}
 use Rattle.method.specs.Record as Answers
 use Rattle.reach.specs.declared.Moved.{Moved}
 use Rattle.reach.specs.Step.{count_limit}
 use Rattle.reach.specs.Reach.{reaching, move_of}
 use Rattle.bench.specs.declared.Bench.{Bench}
 use Rattle.bench.specs.Record.{station_at}
+use Rattle.bench.specs.Record.{turned as benchTurned}
+use Rattle.bench.specs.Turn.{turn_of}
+use Rattle.bench.proofs.InPlace.{is_turn}
 use Rattle.bench.specs.Promise.{turn_by}
 use Rattle.bench.specs.Sound.{sound}
 use Rattle.bench.proofs.Sounds.{Stands, facts, ready_at}
@@ -31,15 +37,19 @@ use Rattle.bench.proofs.Bridge.{taken, put_back}
 use Rattle.bench.proofs.Promised.{turn_sound}
 use Rattle.run.specs.declared.Tally.{Tally}
 use Rattle.run.specs.declared.Errand.{Errand}
+use Rattle.run.specs.declared.Ledger.{Ledger}
 use Rattle.run.specs.declared.Operation.{Operation}
-use Rattle.run.specs.Calls.{offer, offering, on_offer, call_for, errand_of, operation_of, waits}
+use Rattle.run.specs.Calls.{offer, offering, on_offer, call_for, errand_of, errand_by, operation_of, waits}
 use Rattle.run.specs.Book.{Book, idles, finishes, unended}
+use Rattle.card.specs.declared.Claim.{Claim}
+use Rattle.run.specs.Ledger.{Takes, ClaimWithin, Within}
+use Rattle.std.specs.Prelude.{Option, None, Some}
 use Rattle.run.specs.Row.{by_station, size_of, start_of, part_of, book_in, notes_in, RowFits, Becomes, HasPlaces}
 use Rattle.run.specs.Run.{Run, noted, step_run, run_from}
-use Rattle.run.specs.Drive.{one_idle, Good, NotesOf}
+use Rattle.run.specs.Drive.{Good, NotesOf}
 use Rattle.run.proofs.Written.{read}
 use Rattle.run.proofs.Books.{same_change}
-use Rattle.run.proofs.Steps.{moved_turn, idle_turn, acting, ended_noted, going_noted}
+use Rattle.run.proofs.Steps.{same_offer, station_good, idle_turn, acting, ended_noted, going_noted}
 use Rattle.run.proofs.After.{notes_are, fits_after, notes_after, counts_after}
 
 abbrev pub state : Bench → ℕ → Book → Run
@@ -70,6 +80,10 @@ all_turned n start table turns w row s k kept h =
     ap (λ j. state w j (book_in row s)) e
     ∙ sym (ap (run_from table (state w k (book_in row s))) (ap (λ j. drop j turns) (sym e) ∙ drop-length turns)) ∙ kept.run
 
+-- what a station waits for fits a word
+pub s_small : (w : Bench) (i : ℕ) → sound w ≡ true → i < by_station → (station_at w i).s ≤ 4294967292
+s_small w i s h = (ready_at w i s h).1.1.0
+
 -- the station of a saved claim is one of the bench
 saved : (p : Place) (n : ℕ) (t : Station) → Stands count_limit n p t → t.saw.pid ≤ n
 saved Rest n t k = omega arith
@@ -82,6 +96,10 @@ saved At16 n t k = omega arith
 saved At18 n t k = omega arith
 saved At19 n t k = omega arith
 saved At20 n t k = omega arith
+
+claimed : (raised : Bool) (saw : Claim) → saw.pid < by_station → ClaimWithin (cond raised (Some saw) None)
+claimed true saw h = h
+claimed false saw h = tt
 
 module _ (n : ℕ) (start : Run) (table turns : List ℕ) (w : Bench) (row : List ℕ) (s : Tally) (k : ℕ)
     (kept : Kept n start table turns w row s k) (more : k < length turns) (good : Good n table turns) (i : ℕ) (is : i ≡ get_or turns k 0) where
@@ -113,12 +131,26 @@ module _ (n : ℕ) (start : Run) (table turns : List ℕ) (w : Bench) (row : Lis
   inside = omega (arith, high, few)
 
   abbrev e : Errand
-  e = errand_of p (k + 1) i d l
+  e = errand_by p (k + 1) i d l
 
-  -- the errand as the row has it
-  pub errand_is : errand_of p (k + 1) i (get_or row (5191 + i) 0) (get_or row (5125 + i) 0) ≡ e
-  unfolding start_of size_of
-  errand_is = ap (λ x. errand_of p (k + 1) i x (get_or row (5125 + i) 0)) (sym (read row 7 i inside)) ∙ ap (errand_of p (k + 1) i d) (sym (read row 5 i inside))
+  -- the errand as the row has it, if there is one
+  module _ (r : Option Errand) (found : r ≡ errand_of p (k + 1) i (get_or row (5191 + i) 0) (get_or row (5125 + i) 0)) where
+    in_book : r ≡ errand_of p (k + 1) i d l
+    unfolding start_of size_of
+    in_book =
+        found ∙ ap (λ x. errand_of p (k + 1) i x (get_or row (5125 + i) 0)) (sym (read row 7 i inside))
+        ∙ ap (errand_of p (k + 1) i d) (sym (read row 5 i inside))
+
+    pub is_idle : r ≡ None → (at_rest p && eqb d 0) ≡ true
+    is_idle none = either_way (at_rest p && eqb d 0) (λ t. t) (λ f. absurd (none-some e (sym none ∙ in_book ∙ rw f refl)))
+
+    pub errand_is : (x : Errand) → r ≡ Some x → x ≡ e
+    errand_is x some =
+        either_way (at_rest p && eqb d 0)
+        (λ t. absurd (none-some x (sym (in_book ∙ rw t refl) ∙ some)))
+        (λ f.
+        let same : Some x ≡ Some e = sym some ∙ (in_book ∙ rw f refl) in
+        ap (λ y. unwrap_or y e) same)
 
   has_places : HasPlaces e
   has_places = record {
@@ -130,131 +162,134 @@ module _ (n : ℕ) (start : Run) (table turns : List ℕ) (w : Bench) (row : Lis
     turn = omega arith;
   }
 
-  -- what the book asks of a turn that did not end its call
-  pub may_go : (errand : Errand) (o : Operation) (made : ℕ) → errand ≡ e → o ≡ operation_of t w.v made n
-      → RowFits row s × (HasPlaces errand × ((s.begun < 65536) × ((o.n < by_station) × ((o.saw.pid < by_station) × (s.idle < 65536)))))
-  may_go errand o made errand_is o_is =
-      let q : t.saw.pid ≤ w.n = saved p w.n t ((facts w kept.is_sound).station i inside).stands in
-      rw (errand_is, o_is)
-      (kept.fits, (has_places, (omega (arith, kept.begun, good.few), (omega (arith, few, kept.same), (omega (arith, q, few), omega (arith, kept.idle, good.few))))))
+  -- what the ledger asks of a turn
+  pub may_take : (ledger : Ledger) (errand : Errand) → ledger.row.now ≡ row → ledger.tally ≡ s → errand ≡ e → Takes ledger errand
+  may_take ledger errand row_is tally_is errand_is =
+      record {
+        fits = rw (row_is, tally_is) kept.fits;
+        places = rw errand_is has_places;
+        idle = rw tally_is (omega (arith, kept.idle, good.few));
+        begun = rw tally_is (omega (arith, kept.begun, good.few));
+        ended = rw tally_is (omega (arith, kept.ended, good.few));
+      }
 
-  -- and of one that ended it
-  pub may_end : (errand : Errand) → errand ≡ e → RowFits row s × (HasPlaces errand × ((s.begun < 65536) × (s.ended < 65536)))
-  may_end errand errand_is = rw errand_is (kept.fits, (has_places, (omega (arith, kept.begun, good.few), omega (arith, kept.ended, good.few))))
-
-  -- a station at rest with no call left leaves all as it was, but for a turn and an idle turn more
-  idle_kept : at_rest p ≡ true → d ≡ 0 → Kept n start table turns w row (one_idle s) (k + 1)
+  -- a station at rest with no call left leaves the bench as it was, and counts an idle turn
+  pub after_idle : (row' : List ℕ) (s' : Tally) → (at_rest p && eqb d 0) ≡ true → Becomes row s idles row' s' → Kept n start table turns w row' s' (k + 1)
   unfolding noted
-  idle_kept rests none =
+  after_idle row' s' both a =
+      let rests = and_left (at_rest p) (eqb d 0) both in
+      let none = eqb-true d 0 (and_right (at_rest p) (eqb d 0) both) in
+      let book = ap (λ z. z.book) a.notes in
       let step : step_run table (state w k b) i ≡ state w (k + 1) (idles b) =
       ap (λ z. state z.bench (k + 1) (noted table w (k + 1) i (call_for p d l) (station_at z.bench i).own z.answer b))
       (idle_turn w table i d kept.is_sound low high rests none) in
-      let f = kept.fits in
       let m = kept.notes in
       record {
         count = omega arith;
         is_sound = kept.is_sound;
         same = kept.same;
-        fits = record { places = f.places; all = f.all; within = f.within };
-        notes = record { stations = m.stations; mine = m.mine; after = m.after; waiting = m.waiting };
-        idle = omega (arith, kept.idle);
-        begun = omega (arith, kept.begun);
-        ended = omega (arith, kept.ended);
-        run = ap (λ z. run_from table z (drop (k + 1) turns)) (sym step) ∙ ap (λ j. run_from table (step_run table (state w k b) j) (drop (k + 1) turns)) is ∙ sym (one_more table turns (state w k b) k more) ∙ kept.run;
+        fits = a.fits;
+        notes = rw a.notes (record { stations = m.stations; mine = m.mine; after = m.after; waiting = m.waiting });
+        idle = omega (arith, ap (λ z. z.idle) book, kept.idle);
+        begun = omega (arith, ap (λ z. z.begun) book, kept.begun);
+        ended = omega (arith, ap (λ z. z.ended) book, kept.ended);
+        run =
+            ap (λ z. run_from table z (drop (k + 1) turns)) (ap (state w (k + 1)) book ∙ sym step) ∙ ap (λ j. run_from table (step_run table (state w k b) j) (drop (k + 1) turns)) is
+            ∙ sym (one_more table turns (state w k b) k more) ∙ kept.run;
       }
 
-  pub after_idle : (errand : Errand) (test : Bool) (r : Tally) → errand ≡ e → test ≡ (errand.rests && eqb errand.call 0) → test ≡ true → r ≡ one_idle s
-      → Kept n start table turns w row r (k + 1)
-  after_idle errand test r errand_is tested taken idled =
-      let both : (at_rest p && eqb (call_for p d l) 0) ≡ true = ap (λ x. x.rests && eqb x.call 0) (sym errand_is) ∙ sym tested ∙ taken in
-      let rests = and_left (at_rest p) (eqb (call_for p d l) 0) both in
-      let mine : call_for p d l ≡ d = rw rests refl in
-      rw idled (idle_kept rests (sym mine ∙ eqb-true (call_for p d l) 0 (and_right (at_rest p) (eqb (call_for p d l) 0) both)))
+  module _ (errand : Errand) (errand_is : errand ≡ e) (o : Call) (x : Answer) (w' : Bench) (offers : o ≡ offer table (cond errand.rests errand.call 0)) (moves : benchTurned x w' ≡ turn_of w i o.kind o.a o.b) where
+    turned : benchTurned x w' ≡ turn_by w (offering table i (on_offer p d))
+    turned = moves ∙ ap (λ z. turn_of w i z.kind z.a z.b) (offers ∙ ap (λ y. offer table (cond y.rests y.call 0)) errand_is ∙ ap (offer table) (same_offer p d l))
 
-  module _ (to : ℕ) (o : Call) (m : Moved) (reaches : to ≡ reaching p i t) (offers : o ≡ offer table (cond (at_rest p) (call_for p d l) 0))
-      (moves : m ≡ move_of (taken w i to) o.kind o.a o.b) where
-    turned : put_back w i to m ≡ turn_by w (offering table i (on_offer p d))
-    turned =
-        moved_turn w table i d l kept.is_sound low high inside good.offers to (cond (at_rest p) (call_for p d l) 0) m refl reaches
-        (moves ∙ ap (λ z. move_of (taken w i to) z.kind z.a z.b) offers)
-
-    abbrev w' : Bench
-    w' = (put_back w i to m).bench
+    -- the station's record alone is another one
+    m : Moved
+    m = move_of (taken w i (reaching p i t)) o.kind o.a o.b
 
     abbrev ht : Station
-    ht = m.reach.station
+    ht = station_at w' i
+
+    put : w' ≡ (put_back w i (reaching p i t) m).bench
+    unfolding m
+    put = ap (λ z. z.bench) (moves ∙ sym (is_turn w i kept.is_sound (station_good w i low high) (reaching p i t) refl m o.kind o.a o.b refl))
+
+    moved_is : ht ≡ m.reach.station
+    moved_is = ap (λ z. station_at z i) put ∙ get_or-set_same w.stations i m.reach.station (resting 0) (omega (arith, inside, kept.notes.stations))
+
+    stations : w'.stations ≡ set w.stations i ht
+    stations = ap (λ z. z.stations) put ∙ ap (set w.stations i) (sym moved_is)
+
+    same_n : w'.n ≡ w.n
+    same_n = ap (λ z. z.n) put
+
+    -- what it asks of an operation
+    pub within : (o' : Operation) → o' ≡ operation_of t w.v ht.own w'.n → Within o'
+    within o' o_is =
+        let q : t.saw.pid ≤ w.n = saved p w.n t ((facts w kept.is_sound).station i inside).stands in
+        rw o_is (record { claim = claimed (raises p w.v t) t.saw (omega (arith, q, few)); few = omega (arith, few, same_n) })
 
     -- a turn that is not idle has a call on offer
-    begins : (m.answer ≡ Idle → ⊥) → at_rest p ≡ true → 0 < d
-    begins h e = acting w table i d kept.is_sound low high e (λ q. h (ap (λ x. x.answer) turned ∙ q))
+    begins : (x ≡ Idle → ⊥) → at_rest p ≡ true → 0 < d
+    begins h e = acting w table i d kept.is_sound low high e (λ q. h (ap (λ z. z.answer) turned ∙ q))
 
-    noted_end : (result took : ℕ) → m.answer ≡ Ended result took → (z : Book)
-        → finishes (errand_of p (k + 1) i d l) (record { result = result; own = took }) (part_of row 8) z ≡ noted table w (k + 1) i (call_for p d l) ht.own m.answer z
+    noted_end : (result took : ℕ) → x ≡ Ended result took → (z : Book)
+        → finishes (errand_by p (k + 1) i d l) (record { result = result; own = took }) (part_of row 8) z ≡ noted table w (k + 1) i (call_for p d l) ht.own x z
     noted_end result took e z =
         ended_noted w table (part_of row 8) (part_of row 6) i d l (k + 1) kept.notes.after (kept.notes.mine i inside) result took ht.own z
-        (begins (λ q. let n : ◌≡◌ {A = ℕ} 2 0 = ap (λ x. (Answers.told x).case) (sym e ∙ q) in omega arith))
-        ∙ ap (λ x. noted table w (k + 1) i (call_for p d l) ht.own x z) (sym e)
+        (begins (λ q. let n : ◌≡◌ {A = ℕ} 2 0 = ap (λ y. (Answers.told y).case) (sym e ∙ q) in omega arith))
+        ∙ ap (λ y. noted table w (k + 1) i (call_for p d l) ht.own y z) (sym e)
 
-    noted_by : (x : Answer) → ((result took : ℕ) → x ≡ Ended result took → ⊥) → m.answer ≡ x → (z : Book)
-        → unended x (errand_of p (k + 1) i d l) (operation_of t w.v ht.own w.n) (part_of row 8) (part_of row 6) z ≡ noted table w (k + 1) i (call_for p d l) ht.own x z
+    noted_by : (y : Answer) → ((result took : ℕ) → y ≡ Ended result took → ⊥) → x ≡ y → (z : Book)
+        → unended y (errand_by p (k + 1) i d l) (operation_of t w.v ht.own w.n) (part_of row 8) (part_of row 6) z ≡ noted table w (k + 1) i (call_for p d l) ht.own y z
     unfolding unended noted
     noted_by Idle f e z = refl
     noted_by Going f e z =
         going_noted w table (part_of row 8) (part_of row 6) i d l (k + 1) kept.notes.after (kept.notes.mine i inside) kept.notes.waiting few ht.own z
-        (begins (λ q. let n : ◌≡◌ {A = ℕ} 1 0 = ap (λ x. (Answers.told x).case) (sym e ∙ q) in omega arith))
+        (begins (λ q. let n : ◌≡◌ {A = ℕ} 1 0 = ap (λ y. (Answers.told y).case) (sym e ∙ q) in omega arith))
     noted_by (Ended result took) f e z = absurd (f result took refl)
     noted_by (Refused number) f e z = refl
 
     -- the step of the run
-    stepped : (b' : Book) → b' ≡ noted table w (k + 1) i (call_for p d l) ht.own m.answer b → state w' (k + 1) b' ≡ step_run table (state w k b) i
+    stepped : (b' : Book) → b' ≡ noted table w (k + 1) i (call_for p d l) ht.own x b → state w' (k + 1) b' ≡ step_run table (state w k b) i
     stepped b' e =
-        let own_is : ht.own ≡ (station_at w' i).own = ap (λ z. z.own) (sym (get_or-set_same w.stations i ht (resting 0) (omega (arith, inside, kept.notes.stations)))) in
-        ap (state w' (k + 1)) (e ∙ ap (λ u. noted table w (k + 1) i (call_for p d l) u m.answer b) own_is)
+        ap (state w' (k + 1)) e
         ∙ ap (λ z. state z.bench (k + 1) (noted table w (k + 1) i (call_for p d l) (station_at z.bench i).own z.answer b)) turned
 
     -- the invariant holds after one more turn
-    kept_next : (row' : List ℕ) (s' : Tally) → Becomes row s (noted table w (k + 1) i (call_for p d l) ht.own m.answer) row' s'
+    kept_next : (row' : List ℕ) (s' : Tally) → Becomes row s (noted table w (k + 1) i (call_for p d l) ht.own x) row' s'
         → Kept n start table turns w' (set row' (5158 + i) (waits ht)) s' (k + 1)
     kept_next row' s' a =
-        let c = counts_after w w' table row row' s s' (k + 1) i (call_for p d l) ht.own m.answer ht kept.fits kept.notes a refl inside in
-        let e = ap (λ z. z.book) (notes_are w w' table row row' s s' (k + 1) i (call_for p d l) ht.own m.answer ht kept.fits kept.notes a refl inside) in
+        let c = counts_after w w' table row row' s s' (k + 1) i (call_for p d l) ht.own x ht kept.fits kept.notes a stations inside in
+        let e = ap (λ z. z.book) (notes_are w w' table row row' s s' (k + 1) i (call_for p d l) ht.own x ht kept.fits kept.notes a stations inside) in
         record {
           count = omega arith;
           is_sound = ap (λ z. sound z.bench) turned ∙ turn_sound w (offering table i (on_offer p d)) kept.is_sound;
-          same = kept.same;
-          fits = fits_after w w' table row row' s s' (k + 1) i (call_for p d l) ht.own m.answer ht kept.fits kept.notes a refl inside;
-          notes = notes_after w w' table row row' s s' (k + 1) i (call_for p d l) ht.own m.answer ht kept.fits kept.notes a refl inside;
+          same = same_n ∙ kept.same;
+          fits = fits_after w w' table row row' s s' (k + 1) i (call_for p d l) ht.own x ht kept.fits kept.notes a stations inside;
+          notes = notes_after w w' table row row' s s' (k + 1) i (call_for p d l) ht.own x ht kept.fits kept.notes a stations inside;
           idle = omega (arith, c.0, kept.idle);
           begun = omega (arith, c.1, kept.begun);
           ended = omega (arith, c.2, kept.ended);
           run = ap (λ z. run_from table z (drop (k + 1) turns)) (stepped _ e) ∙ ap (λ j. run_from table (step_run table (state w k b) j) (drop (k + 1) turns)) is ∙ sym (one_more table turns (state w k b) k more) ∙ kept.run;
         }
 
-    -- what the station waits for fits a word
-    pub s_small : ht.s ≤ 4294967292
-    s_small =
-        let q : sound w' ≡ true = ap (λ z. sound z.bench) turned ∙ turn_sound w (offering table i (on_offer p d)) kept.is_sound in
-        let r = ready_at w' i q inside in
-        let z : station_at w' i ≡ ht = get_or-set_same w.stations i ht (resting 0) (omega (arith, inside, kept.notes.stations)) in
-        rw z at r.1.1.0
-
     -- a turn that did not end its call, by what the book then holds
-    pub after_going : (errand : Errand) (o : Operation) (r : Tally) (waiting : ℕ) (row' : List ℕ) → ((result took : ℕ) → m.answer ≡ Ended result took → ⊥) → errand ≡ e
-        → o ≡ operation_of t w.v ht.own n → waiting ≡ waits ht → Becomes row s (unended m.answer errand o (part_of row 8) (part_of row 6)) row' r
+    pub after_going : (o' : Operation) (waiting : ℕ) (r : Tally) (row' : List ℕ) → ((result took : ℕ) → x ≡ Ended result took → ⊥)
+        → o' ≡ operation_of t w.v ht.own w'.n → waiting ≡ waits ht → Becomes row s (unended x errand o' (part_of row 8) (part_of row 6)) row' r
         → Kept n start table turns w' (set row' (5158 + i) waiting) r (k + 1)
-    after_going errand o r waiting row' f errand_is o_is waits-is a =
-        rw waits-is
+    after_going o' waiting r row' f o_is waits_is a =
+        rw waits_is
         (kept_next row' r
         (same_change
         (λ z.
-        ap (λ x. unended m.answer x o (part_of row 8) (part_of row 6) z) errand_is
-        ∙ ap (λ x. unended m.answer e x (part_of row 8) (part_of row 6) z) (o_is ∙ ap (operation_of t w.v ht.own) (sym kept.same)) ∙ noted_by m.answer f refl z) a))
+        ap (λ y. unended x y o' (part_of row 8) (part_of row 6) z) errand_is
+        ∙ ap (λ y. unended x e y (part_of row 8) (part_of row 6) z) (o_is ∙ ap (operation_of t w.v ht.own) same_n) ∙ noted_by x f refl z) a))
 
     -- and one that ended it
-    pub after_end : (errand : Errand) (result took waiting : ℕ) (r : Tally) (row' : List ℕ) → m.answer ≡ Ended result took → errand ≡ e → waiting ≡ waits ht
+    pub after_end : (result took waiting : ℕ) (r : Tally) (row' : List ℕ) → x ≡ Ended result took → waiting ≡ waits ht
         → Becomes row s (finishes errand (record { result = result; own = took }) (part_of row 8)) row' r
         → Kept n start table turns w' (set row' (5158 + i) waiting) r (k + 1)
-    after_end errand result took waiting r row' x-is errand_is waits-is a =
-        rw waits-is
+    after_end result took waiting r row' x_is waits_is a =
+        rw waits_is
         (kept_next row' r
-        (same_change (λ z. ap (λ x. finishes x (record { result = result; own = took }) (part_of row 8) z) errand_is ∙ noted_end result took x-is z) a))
+        (same_change (λ z. ap (λ y. finishes y (record { result = result; own = took }) (part_of row 8) z) errand_is ∙ noted_end result took x_is z) a))

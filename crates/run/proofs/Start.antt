@@ -1,5 +1,6 @@
 -- A run's start: a fresh bench and a linked row are what the loop assumes, and the book in the row is empty. Assumes nothing.
 use mathlib.Core.Path.{◌≡◌, refl, ◌∙◌, sym, ap}
+use mathlib.Core.Bool.{true}
 use mathlib.Core.List.{List, []}
 use Prim.Native.Nat.{ℕ, zero, suc, ◌<◌, ◌≤◌}
 use native.Mathlib.Omega.{arith}
@@ -84,9 +85,12 @@ module _ (file row : List ℕ) (well : (read_of file).refused ≡ 0) (linked : L
   pub is_fresh : fresh_of (read_of file).x (read_of file).n ≡ record { refused = 0; bench = w }
   is_fresh = fresh_bench (read_of file).x (read_of file).n (reads_well file well).some (reads_well file well).few
 
+  -- a fresh bench is sound
+  pub is_sound : sound w ≡ true
+  is_sound = ap (λ m. sound m.bench) (sym is_fresh) ∙ kept_sound.fresh (read_of file).x (read_of file).n (ap (λ m. m.refused) is_fresh)
+
   from_here : Drivable w (table_of file) (turns_of file) row
   from_here = record {
-    is_sound = ap (λ m. sound m.bench) (sym is_fresh) ∙ kept_sound.fresh (read_of file).x (read_of file).n (ap (λ m. m.refused) is_fresh);
     good = (reads_well file well).good;
     fits = fits;
     notes = notes;

@@ -1,5 +1,5 @@
 -- One turn of the run loop against one turn of the run: the offer, the bench, and the book. Assumes nothing.
-use mathlib.Core.Path.{◌≡◌, refl, ◌∙◌, sym, ap}
+use mathlib.Core.Path.{◌≡◌, refl, ◌∙◌, ap}
 use mathlib.Core.Logic.{◌⊎◌, inl, inr, ⊎_elim}
 use mathlib.Core.Bool.{Bool, true, false, cond, not, ◌&&◌, false≢true}
 use mathlib.Core.List.{List, [], ◌∷◌, ◌++◌}
@@ -17,9 +17,7 @@ use Rattle.method.specs.declared.Answer.TheVariants.{Idle, Going, Ended}
 use Rattle.method.specs.Record.{num, at_rest}
 use Rattle.method.specs.Table.{row}
 use Rattle.method.specs.Effect.{one_word, raises, loses, losers, points}
-use Rattle.reach.specs.declared.Moved.{Moved}
 use Rattle.reach.specs.Step.{bad_offer, step_of}
-use Rattle.reach.specs.Reach.{reaching, move_of}
 use Rattle.bench.specs.declared.Bench.{Bench}
 use Rattle.bench.specs.Record.{station_at, on_bench}
 use Rattle.bench.specs.Record.{turned as benchTurned}
@@ -28,11 +26,9 @@ use Rattle.bench.specs.Sound.{sound}
 use Rattle.rules.specs.Limits.{bad_station}
 use Rattle.bench.specs.Turn.{turn_of}
 use Rattle.bench.specs.Promise.{turn_by}
-use Rattle.bench.proofs.Sounds.{ready_at}
-use Rattle.bench.proofs.Bridge.{taken, put_back, step_law}
 use Rattle.runfile.specs.First.{first_from}
 use Rattle.runfile.specs.Layout.{records, call_of}
-use Rattle.run.specs.Calls.{made_by, call_after, offer, offering, on_offer, call_for, errand_of, waits, operation_of}
+use Rattle.run.specs.Calls.{made_by, call_after, offering, on_offer, call_for, errand_by, waits, operation_of}
 use Rattle.run.specs.Book.{Book, acts, all_enter, call_ends, waiters, raisers, goes_on, finishes}
 use Rattle.run.specs.Run.{noted}
 use Rattle.run.proofs.Links.{none_after}
@@ -43,25 +39,12 @@ turn_is_step : (w : Bench) (i kind a b : ℕ) → sound w ≡ true → bad_stati
 unfolding turn_of step_of
 turn_is_step w i kind a b s p q = rw (s, p, q)
 
-station_good : (w : Bench) (i : ℕ) → 1 ≤ i → i ≤ w.n → bad_station w.n i ≡ false
+pub station_good : (w : Bench) (i : ℕ) → 1 ≤ i → i ≤ w.n → bad_station w.n i ≡ false
 station_good w i h g = rw (ne_eqb i 0 (λ e. omega arith), le-ltb w.n i g)
 
 -- what the errand offers is what the run offers
-same_offer : (p : Place) (d l : ℕ) → cond (at_rest p) (call_for p d l) 0 ≡ on_offer p d
+pub same_offer : (p : Place) (d l : ℕ) → cond (at_rest p) (call_for p d l) 0 ≡ on_offer p d
 same_offer p d l = either_way (at_rest p) (λ e. rw e) (λ e. rw e)
-
--- the bench after the move, and its answer, are the turn's
-module _ (w : Bench) (table : List ℕ) (i d l : ℕ) (s : sound w ≡ true) (low : 1 ≤ i) (high : i ≤ w.n) (inside : i < 33)
-    (good : (c : ℕ) → bad_offer (offer table c).kind (offer table c).a (offer table c).b ≡ false) where
-  abbrev p : Place
-  p = (station_at w i).place
-
-  pub moved_turn : (k c : ℕ) (m : Moved) → c ≡ cond (at_rest p) (call_for p d l) 0 → k ≡ reaching p i (station_at w i)
-      → m ≡ move_of (taken w i k) (offer table c).kind (offer table c).a (offer table c).b → put_back w i k m ≡ turn_by w (offering table i (on_offer p d))
-  moved_turn k c m e q r =
-      step_law w i k (offer table c).kind (offer table c).a (offer table c).b m (ready_at w i s inside) q r
-      ∙ ap (λ c. step_of on_bench p w i (station_at w i) (offer table c).kind (offer table c).a (offer table c).b) (e ∙ same_offer p d l)
-      ∙ sym (turn_is_step w i _ _ _ s (station_good w i low high) (good (on_offer p d)))
 
 -- a call that comes after another is its station's own
 next_mine : (p : ℕ → Bool) (i m : ℕ) → (first_from p i m ≡ 0) ⊎ ((p (first_from p i m - 1) ≡ true) × (first_from p i m ≤ i + m) × (1 ≤ first_from p i m))
@@ -155,7 +138,7 @@ module _ (w : Bench) (table next wait : List ℕ) (i d l turn : ℕ)
       (λ e. rw e)
 
   pub ended_noted : (result took own : ℕ) (b : Book) → (at_rest here ≡ true → 0 < d)
-      → finishes (errand_of here turn i d l) (record { result = result; own = took }) next b ≡ noted table w turn i (call_for here d l) own (Ended result took) b
+      → finishes (errand_by here turn i d l) (record { result = result; own = took }) next b ≡ noted table w turn i (call_for here d l) own (Ended result took) b
   unfolding finishes noted points
   ended_noted result took own b h =
       ap (λ z. call_ends turn (call_for here d l) result (all_enter turn (cond (at_rest here) (i ∷ []) []) z)) (same_acts took b h)
@@ -173,7 +156,7 @@ module _ (w : Bench) (table next wait : List ℕ) (i d l turn : ℕ)
         (λ e. rw e)
 
     pub going_noted : (own : ℕ) (b : Book) → (at_rest here ≡ true → 0 < d)
-        → goes_on (errand_of here turn i d l) (operation_of t w.v own w.n) next wait b ≡ noted table w turn i (call_for here d l) own Going b
+        → goes_on (errand_by here turn i d l) (operation_of t w.v own w.n) next wait b ≡ noted table w turn i (call_for here d l) own Going b
     unfolding goes_on noted
     going_noted own b h =
         ap (λ z. all_enter turn (raisers (operation_of t w.v 0 w.n) wait) z) (same_acts own b h)

@@ -1,21 +1,26 @@
 -- The trace that is handed out, from what the run left or from a refusal. Assumes nothing.
 use mathlib.Core.Path.{◌≡◌, refl, ◌∙◌, sym, ap}
-use mathlib.Core.List.{List, ◌++◌}
+use mathlib.Core.List.{List, ◌++◌, append-nil}
 use Prim.Native.Nat.{ℕ, ◌+◌, ◌-◌, ◌<◌, ◌≤◌}
 use native.Mathlib.Omega.{arith}
 use borrow.Author.Tests.{eq-eqb, ne_eqb, lt-ltb, le-ltb}
-use lib.ListN.{length, take, drop, replicate}
-use lib.Seq.{length-take-le, take-take, take-add}
-use Rattle.runfile.specs.Reading.{ReadAnswer}
-use Rattle.runfile.specs.Reading.{read_of, turns_of}
+use lib.ListN.{length, get_or, take, drop, length-drop, replicate, length-replicate, get_or-replicate}
+use Rattle.std.proofs.lemmas.List.{drop_all}
+use lib.Seq.{ext_get_or, length-take-le, take-take, take-add}
+use borrow.Rule.Slice.PartMut.{put_mid}
+use Rattle.std.specs.Prelude.{Result, Ok, Err}
+use Rattle.rules.specs.declared.Reason.{Reason}
+use Rattle.rules.specs.Reason.{number_of, k_of}
+use Rattle.rules.proofs.Reasons.{above, numbers_tell}
+use Rattle.runfile.specs.Reading.{ReadAnswer, no_run, read_of, turns_of}
 use Rattle.runfile.proofs.Answers.{inside}
 use Rattle.runfile.proofs.Trailers.{length_part}
 use Rattle.run.specs.declared.Tally.{Tally}
 use Rattle.run.specs.declared.Trace.{Trace}
 use Rattle.run.specs.declared.Drove.{Drove}
-use Rattle.run.specs.Row.{size_of, start_of, row_places, zero_row, part_of, book_in, RowFits}
+use Rattle.run.specs.Row.{size_of, start_of, row_places, part_of, book_in, RowFits}
 use Rattle.run.specs.Drive.{run_of_file}
-use Rattle.run.specs.Trace.{cleared, row_of, no_trace, trace_by, trace_of, TracedTo, RanTo}
+use Rattle.run.specs.Trace.{row_of, TraceNumbers, no_trace, given_trace, trace_numbers, trace_by, trace_of, TracedTo, RanTo}
 use Rattle.run.proofs.Written.{long}
 use Rattle.run.proofs.Points.{few_listed}
 use Rattle.run.proofs.Loop.{state}
@@ -24,8 +29,6 @@ use Rattle.run.proofs.Loop.{state}
 abbrev pub drawn : Drove → ℕ → ℕ → Trace
 drawn d calls turns =
     record {
-      refused = 0;
-      k = 0;
       calls = calls;
       turns = turns;
       idle = d.tally.idle;
@@ -36,7 +39,7 @@ drawn d calls turns =
       seq = d.bench.v.first;
     }
 
--- a row that is cleared after its list is its book's
+-- a row with zeros after its list is its book's
 module _ (row : List ℕ) (s : Tally) (f : RowFits row s) where
   pub how_many_listed : length (book_in row s).list ≡ s.listed
   unfolding size_of
@@ -52,10 +55,11 @@ module _ (row : List ℕ) (s : Tally) (f : RowFits row s) where
   unfolding start_of size_of part_of
   in_list = sym (take-take s.listed 1025 (drop 4100 row) (few_listed f))
 
-  pub as_row : cleared row (4100 + s.listed) ≡ row_of (book_in row s)
+  pub as_row : (zeros : List ℕ) → zeros ≡ replicate (length row - (4100 + s.listed)) 0 → put_mid (4100 + s.listed) (length row - (4100 + s.listed)) row zeros ≡ row_of (book_in row s)
   unfolding row_of start_of size_of
-  as_row =
-      rw (f.places, how_many_listed)
+  as_row zeros e =
+      let at = 4100 + s.listed in
+      rw (drop_all (length row - at) (drop at row) (omega (arith, length-drop at row)), e, append-nil (replicate {A = ℕ} (length row - (4100 + s.listed)) 0), f.places, how_many_listed)
       (ap (λ l. l ++ replicate (6249 - (4100 + s.listed)) 0) (take-add 4100 s.listed row ∙ ap (λ l. l ++ take s.listed (drop 4100 row)) in_front
       ∙ ap (λ l. part_of row 0 ++ part_of row 1 ++ part_of row 2 ++ part_of row 3 ++ l) in_list))
 
@@ -64,8 +68,6 @@ module _ (file row : List ℕ) (d : Drove) (f : RowFits row d.tally) (ran : stat
   numbers calls turns h e =
       let listed : d.tally.listed ≡ length (run_of_file file).book.list = sym (how_many_listed row d.tally f) ∙ ap (λ r. length r.book.list) ran in
       λ i. record {
-        refused = 0;
-        k = 0;
         calls = h i;
         turns = (e ∙ ap (λ r. r.turns) ran) i;
         idle = (ran i).book.idle;
@@ -76,39 +78,51 @@ module _ (file row : List ℕ) (d : Drove) (f : RowFits row d.tally) (ran : stat
         seq = (ran i).bench.v.first;
       }
 
-  pub whole : (row' : List ℕ) (calls turns : ℕ) → calls ≡ (read_of file).q → turns ≡ length (turns_of file) → row' ≡ cleared row (4100 + d.tally.listed)
-      → RanTo file (drawn d calls turns) row'
-  whole row' calls turns h e left = record {
+  -- with zeros after the list
+  pub whole : (zeros : List ℕ) (calls turns : ℕ) → calls ≡ (read_of file).q → turns ≡ length (turns_of file) → zeros ≡ replicate (length row - (4100 + d.tally.listed)) 0
+      → RanTo file (drawn d calls turns) (put_mid (4100 + d.tally.listed) (length row - (4100 + d.tally.listed)) row zeros)
+  whole zeros calls turns h e cleared = record {
     answered = numbers calls turns h e;
-    left = left ∙ as_row row d.tally f ∙ ap (λ r. row_of r.book) ran;
+    left = as_row row d.tally f zeros cleared ∙ ap (λ r. row_of r.book) ran;
   }
 
 -- the number of turns that was read
 pub turns_counted : (file : List ℕ) (a : ReadAnswer) → a ≡ read_of file → a.t ≡ length (turns_of file)
 turns_counted file a e = ap (λ r. r.t) e ∙ sym (length_part file (read_of file).middle (read_of file).t (inside file).turns)
 
--- the front of a row, cleared
-pub front_cleared : (row front : List ℕ) → row_places ≤ length row → front ≡ cleared (take row_places row) 0 → front ≡ zero_row
-unfolding zero_row
-front_cleared row front h e = e ∙ ap (λ k. replicate (k - 0) 0) (length-take-le row_places row h)
+-- a list that is zero everywhere is one of zeros
+pub all_zeros : (l : List ℕ) (n : ℕ) → length l ≡ n → ((k : ℕ) → k < n → get_or l k 0 ≡ 0) → l ≡ replicate n 0
+all_zeros l n long zero = ext_get_or 0 l (replicate n 0) (long ∙ sym (length-replicate n 0)) (λ k h. zero k (omega (arith, long)) ∙ sym (get_or-replicate n k 0 0 (omega (arith, long))))
 
 module _ (file row : List ℕ) where
   -- the file's refusal
-  pub refused : (r : ReadAnswer) (t : Trace) → r ≡ read_of file → (r.refused ≡ 0 → ⊥) → t ≡ no_trace r.refused r.k → TracedTo file row t row
+  pub refused : (e : Reason) → no_run (number_of e) (k_of e) ≡ read_of file → TracedTo file row (no_trace (number_of e) (k_of e)) row
   unfolding trace_of
-  refused r t e h same =
-      let b = ne_eqb r.refused 0 h in
-      rw same (record { answered = simp (sym e, b); left = simp b })
+  refused e q =
+      let b = ne_eqb (number_of e) 0 (above e) in
+      record { answered = simp (sym q, b); left = simp b }
 
   -- 14
-  pub too_short : (t : Trace) → (read_of file).refused ≡ 0 → length row < row_places → t ≡ no_trace 14 0 → TracedTo file row t row
+  pub too_short : (read_of file).refused ≡ 0 → length row < row_places → TracedTo file row (no_trace 14 0) row
   unfolding trace_of
-  too_short t well short same =
-      rw same (record { answered = rw (eq-eqb (read_of file).refused 0 well, lt-ltb (length row) row_places short); left = refl })
+  too_short well short = record { answered = rw (eq-eqb (read_of file).refused 0 well, lt-ltb (length row) row_places short); left = refl }
 
   -- a row that is long enough, of which the run was given the front
-  pub long_enough : (t : Trace) (front : List ℕ) → (read_of file).refused ≡ 0 → row_places ≤ length row → RanTo file t front → TracedTo file row t (front ++ drop row_places row)
+  pub long_enough : (t : Trace) (front : List ℕ) → (read_of file).refused ≡ 0 → row_places ≤ length row → RanTo file t front
+      → TracedTo file row (given_trace t) (front ++ drop row_places row)
   unfolding trace_of
   long_enough t front well room ran =
       rw (ran.answered, ran.left)
       (record { answered = rw (eq-eqb (read_of file).refused 0 well, le-ltb (length row) row_places room); left = refl })
+
+-- the numbers tell the trace, or the reason why there is none
+trace_with : TraceNumbers → Trace
+trace_with x =
+    record { calls = x.calls; turns = x.turns; idle = x.idle; begun = x.begun; ended = x.ended; listed = x.listed; val = x.val; seq = x.seq }
+
+pub trace_tells : (r s : Result Trace Reason) → trace_numbers r ≡ trace_numbers s → r ≡ s
+unfolding trace_with
+trace_tells (Ok t) (Ok u) e = ap (λ x. Ok (trace_with x)) e
+trace_tells (Ok t) (Err d) e = absurd (above d (sym (ap (λ x. x.refused) e)))
+trace_tells (Err d) (Ok t) e = absurd (above d (ap (λ x. x.refused) e))
+trace_tells (Err d) (Err e) q = ap Err (numbers_tell.reasons d e (ap (λ x. x.refused) q) (ap (λ x. x.k) q))

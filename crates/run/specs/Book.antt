@@ -1,5 +1,6 @@
 -- The book that is kept of a run, by stations and by calls: document 01, "Order of effect" and "Report". Assumes nothing.
-use Rattle.std.specs.Prelude.{Bool, cond, not, ◌&&◌, List, [], ◌∷◌, ◌++◌, ℕ, zero, suc, ◌+◌, eqb, get_or, set}
+use Rattle.std.specs.Prelude.{Bool, cond, not, ◌&&◌, List, [], ◌∷◌, ◌++◌, ℕ, zero, suc, ◌+◌, eqb, get_or, set, Option, None, Some}
+use Rattle.card.specs.declared.Claim.{Claim}
 use Rattle.method.specs.declared.Answer.{Answer}
 use Rattle.method.specs.Record.{told}
 use Rattle.run.specs.declared.Errand.{Errand}
@@ -120,9 +121,13 @@ waiters wait pid seq zero = []
 waiters wait pid seq (suc k) =
     waiters wait pid seq k ++ cond (not (eqb (suc k) pid) && eqb (get_or wait (suc k) 0) seq) (suc k ∷ []) []
 
--- the stations whose calls have their point where V.seq was raised
+-- the stations whose calls have their point where V.seq was raised to a claim: its own first
+abbrev pub raised_by : Option Claim → ℕ → List ℕ → List ℕ
+raised_by None n wait = []
+raised_by (Some saw) n wait = saw.pid ∷ waiters wait saw.pid saw.seq n
+
 abbrev pub raisers : Operation → List ℕ → List ℕ
-raisers o wait = cond o.raises (o.saw.pid ∷ waiters wait o.saw.pid o.saw.seq o.n) []
+raisers o wait = raised_by o.raise o.n wait
 
 -- the book after an operation of the errand's call, by the calls that come next
 abbrev pub acts_for : Errand → ℕ → List ℕ → Book → Book

@@ -1,6 +1,6 @@
 -- Document 01, "Run file": a station makes its calls in table order, and a turn of a station with no call left is offered none. Calls go by their numbers in the table, from 1.
 -- Assumes nothing.
-use Rattle.std.specs.Prelude.{◌≡◌, Bool, cond, List, ℕ, suc, ◌+◌, ◌-◌, ◌<◌, ◌≤◌, ltb, eqb, get_or}
+use Rattle.std.specs.Prelude.{◌≡◌, Bool, cond, ◌&&◌, List, ℕ, suc, ◌+◌, ◌-◌, ◌<◌, ◌≤◌, ltb, eqb, get_or, Option, None, Some}
 use Rattle.card.specs.declared.Halves.{Halves}
 use Rattle.method.specs.declared.Station.{Station}
 use Rattle.method.specs.Effect.{raises}
@@ -37,15 +37,19 @@ on_offer p upcoming = cond (at_rest p) upcoming 0
 abbrev pub call_for : Place → ℕ → ℕ → ℕ
 call_for p upcoming latest = cond (at_rest p) upcoming latest
 
-abbrev pub errand_of : Place → ℕ → ℕ → ℕ → ℕ → Errand
-errand_of p turn i upcoming latest = record { turn = turn; station = i; call = call_for p upcoming latest; rests = at_rest p }
+abbrev pub errand_by : Place → ℕ → ℕ → ℕ → ℕ → Errand
+errand_by p turn i upcoming latest = record { turn = turn; station = i; call = call_for p upcoming latest; rests = at_rest p }
+
+-- a station at rest with no call left has none: its turn is idle
+abbrev pub errand_of : Place → ℕ → ℕ → ℕ → ℕ → Option Errand
+errand_of p turn i upcoming latest = cond (at_rest p && eqb upcoming 0) None (Some (errand_by p turn i upcoming latest))
 
 -- the V.seq that a station in a call waits for, s + 2; 0 at rest
 abbrev pub waits : Station → ℕ
 waits t = cond (ltb (num t.place) 11) 0 (t.s + 2)
 
 abbrev pub operation_of : Station → Halves → ℕ → ℕ → Operation
-operation_of t v own n = record { own = own; raises = raises t.place v t; saw = t.saw; n = n }
+operation_of t v own n = record { own = own; raise = cond (raises t.place v t) (Some t.saw) None; n = n }
 
 -- every call's station has its place
 abbrev pub StationsWithin : List ℕ → Type 0

@@ -1,11 +1,10 @@
 -- What the run loop assumes, and what it leaves: the run of the definitions, in a row. Assumes nothing.
-use Rattle.std.specs.Prelude.{◌≡◌, ◌⊎◌, true, false, List, ℕ, ◌+◌, ◌<◌, ◌≤◌, length, get_or, replicate}
+use Rattle.std.specs.Prelude.{◌≡◌, ◌⊎◌, false, List, ℕ, ◌<◌, ◌≤◌, length, get_or, replicate}
 use Rattle.rules.specs.Limits.{call_limit, turn_limit}
 use Rattle.runfile.specs.Layout.{records, call_of}
 use Rattle.runfile.specs.Reading.{read_of, table_of, turns_of}
 use Rattle.bench.specs.declared.Bench.{Bench}
 use Rattle.bench.specs.Record.{station_at}
-use Rattle.bench.specs.Sound.{sound}
 use Rattle.reach.specs.Step.{bad_offer}
 use Rattle.run.specs.declared.Tally.{Tally}
 use Rattle.run.specs.declared.Drove.{Drove}
@@ -15,10 +14,6 @@ use Rattle.run.specs.Run.{Run, run_from, run_of}
 
 abbrev pub no_tally : Tally
 no_tally = record { idle = 0; begun = 0; ended = 0; listed = 0 }
-
--- the counts with an idle turn more
-abbrev pub one_idle : Tally → Tally
-one_idle s = record { idle = s.idle + 1; begun = s.begun; ended = s.ended; listed = s.listed }
 
 -- every turn is of a station of the bench, and every call is a good offer
 pub record Good (n : ℕ) (table turns : List ℕ) : Type 0 where
@@ -35,9 +30,8 @@ pub record NotesOf (table : List ℕ) (w : Bench) (m : Notes) : Type 0 where
   pub after : (c : ℕ) → 0 < c → c ≤ records table → get_or m.next c 0 ≡ call_after table (call_of table c).station c
   pub waiting : (j : ℕ) → j < by_station → get_or m.wait j 0 ≡ waits (station_at w j)
 
--- what the loop assumes
+-- what the loop assumes of a sound bench
 pub record Drivable (w : Bench) (table turns row : List ℕ) : Type 0 where
-  pub is_sound : sound w ≡ true
   pub good : Good w.n table turns
   pub fits : RowFits row no_tally
   pub notes : NotesOf table w (notes_in row no_tally)

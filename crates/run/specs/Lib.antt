@@ -4,3 +4,4 @@ pub mod Row
 pub mod Run
 pub mod Drive
 pub mod Trace
+pub mod Ledger

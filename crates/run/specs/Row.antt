@@ -117,7 +117,7 @@ pub record Becomes (row : List ℕ) (s : Tally) (change : Book → Book) (row' :
   pub notes : notes_in row' r ≡ on_book change (notes_in row s)
   pub fits : RowFits row' r
 
--- the errand's station and call have their places in the parts
+-- the errand's station and call have their places in the parts, and its turn is none before the first
 pub record HasPlaces (e : Errand) : Type 0 where
   pub station : e.station < by_station
   pub call : e.call < by_call

@@ -1,162 +1,127 @@
-// The book of a run, in its row: who has a point, and in which order. Each function takes the row, its counts and the errand, and hands back the counts.
-ghost use Rattle.std.specs.Prelude.{◌≡◌, cond, [], ◌∷◌, ◌<◌, ◌≤◌};
-ghost use Rattle.run.specs.Book.{enters, all_enter, waiters, raisers, acts_for, goes_on, finishes, unended};
-ghost use Rattle.run.specs.Row.{by_station, wait_part, next_part, part_of, RowFits, Becomes, HasPlaces};
-ghost use Rattle.run.specs.Drive.{one_idle};
+// The book of a run, in a lent row with its counts: who has a point, and in which order.
+ghost use Rattle.std.specs.Prelude.{◌≡◌, cond, [], ◌∷◌, ◌<◌};
+ghost use Rattle.run.specs.Book.{enters, all_enter, waiters, acts_for, goes_on, finishes, idles, unended};
+ghost use Rattle.run.specs.Row.{by_station, HasPlaces};
+ghost use Rattle.run.specs.Ledger.{Opens, Fits, Takes, Changes, Within, next_in, wait_in};
 
 use crate::parts::{HEAD, LAST, LATEST, LIST, NEXT, OWN, POINT, RESULT, WAIT};
-use crate::{Errand, Finish, Operation, Tally};
+use crate::{Errand, Finish, Ledger, Operation, Tally};
 use card::Claim;
 use method::Answer;
 
-// The latest call of station j has its point in this turn, if it is in one that has none yet.
-pub(crate) fn enter(row: &mut [u32], s: Tally, j: u32, turn: u32) -> Tally
-    requires { RowFits row.old s × ((j < by_station) × (0 < turn)) }
-    ensures { Becomes row.old s (enters turn j) row.new result }
-{
-    let c = row[LATEST + j as usize];
-    if c == 0 {
-        return s;
-    }
-    let at = POINT + c as usize;
-    if row[at] != 0 {
-        return s;
-    }
-    row[at] = turn;
-    let end = LIST + s.listed as usize;
-    row[end] = c;
-    Tally {
-        idle: s.idle,
-        begun: s.begun,
-        ended: s.ended,
-        listed: s.listed + 1,
-    }
-}
-
-// Where place 19 raises V.seq to the saved version: the call of the saved pid's station, then those of the others that wait for that version, by station number.
-pub(crate) fn raise(row: &mut [u32], s: Tally, n: u32, saw: Claim, turn: u32) -> Tally
-    requires { RowFits row.old s × ((n < by_station) × ((saw.pid < by_station) × (0 < turn))) }
-    ensures { Becomes row.old s (all_enter turn (saw.pid ∷ waiters (part_of row.old wait_part) saw.pid saw.seq n)) row.new result }
-{
-    let pid = saw.pid;
-    let seq = saw.seq;
-    let mut k = enter(row, s, pid, turn);
-    let mut j: u32 = 0;
-    while j < n {
-        j = j + 1;
-        let at = WAIT + j as usize;
-        if (j != pid) & (row[at] == seq) {
-            k = enter(row, k, j, turn);
+impl<'a> Ledger<'a> {
+    // A ledger with nothing counted.
+    pub(crate) fn new(row: &'a mut [u32]) -> Ledger<'a>
+        ensures { Opens row.entry result }
+    {
+        Ledger {
+            row,
+            tally: Tally::default(),
         }
     }
-    k
-}
 
-// An operation for the errand's call makes so many own turns; a station at rest begins the call with it.
-fn acted(row: &mut [u32], s: Tally, e: Errand, turns: u32) -> Tally
-    requires { RowFits row.old s × (HasPlaces e × (s.begun < 65536)) }
-    ensures { Becomes row.old s (acts_for e turns (part_of row.old next_part)) row.new result }
-{
-    let at = e.station as usize;
-    let call = e.call;
-    let c = call as usize;
-    let rests = e.rests;
-    row[OWN + c] = turns;
-    if rests {
-        row[HEAD + at] = row[NEXT + c];
-        row[LATEST + at] = call;
-        return Tally {
-            idle: s.idle,
-            begun: s.begun + 1,
-            ended: s.ended,
-            listed: s.listed,
-        };
+    // The latest call of station j has its point in this turn, if it is in one that has none yet.
+    fn enter(&mut self, j: u32, turn: u32)
+        requires { Fits self.old × ((j < by_station) × (0 < turn)) }
+        ensures { Changes self.old (enters turn j) self.new }
+    {
+        let c = self.row[LATEST + j as usize];
+        if c == 0 {
+            return;
+        }
+        let at = POINT + c as usize;
+        let has_point = self.row[at] != 0;
+        if has_point {
+            return;
+        }
+        self.row[at] = turn;
+        self.row[LIST + self.tally.listed as usize] = c;
+        self.tally.listed += 1;
     }
-    s
-}
 
-// The calls that have their point where V.seq was raised; none where it was not.
-fn raised(row: &mut [u32], s: Tally, o: Operation, turn: u32) -> Tally
-    requires { RowFits row.old s × ((o.n < by_station) × ((o.saw.pid < by_station) × (0 < turn))) }
-    ensures { Becomes row.old s (all_enter turn (raisers o (part_of row.old wait_part))) row.new result }
-{
-    let raises = o.raises;
-    let n = o.n;
-    let saw = o.saw;
-    if raises {
-        return raise(row, s, n, saw, turn);
+    // Where place 19 raises V.seq to the saved version: the call of the saved pid's station, then those of the others that wait for that version, by station number.
+    #[tactic(auto, using(crate::proofs::Ledgers::none_yet))]
+    fn raise(&mut self, saw: Claim, n: u32, turn: u32)
+        requires { Fits self.old × ((n < by_station) × ((saw.pid < by_station) × (0 < turn))) }
+        ensures { Changes self.old (all_enter turn (saw.pid ∷ waiters (wait_in self.old) saw.pid saw.seq n)) self.new }
+    {
+        self.enter(saw.pid, turn);
+        for j in 1..=n {
+            if (j != saw.pid) & (self.row[WAIT + j as usize] == saw.seq) {
+                self.enter(j, turn);
+            }
+        }
     }
-    s
-}
 
-// A turn with an operation that did not end its call.
-fn operated(row: &mut [u32], s: Tally, e: Errand, o: Operation) -> Tally
-    requires { RowFits row.old s × (HasPlaces e × ((s.begun < 65536) × ((o.n < by_station) × (o.saw.pid < by_station)))) }
-    ensures { Becomes row.old s (goes_on e o (part_of row.old next_part) (part_of row.old wait_part)) row.new result }
-{
-    let turn = e.turn;
-    let own = o.own;
-    let a = acted(row, s, e, own);
-    raised(row, a, o, turn)
-}
-
-// A call that ends in its first turn has its point there.
-fn at_once(row: &mut [u32], s: Tally, e: Errand) -> Tally
-    requires { RowFits row.old s × HasPlaces e }
-    ensures { Becomes row.old s (all_enter e.turn (cond e.rests (e.station ∷ []) [])) row.new result }
-{
-    let turn = e.turn;
-    let station = e.station;
-    let rests = e.rests;
-    if rests {
-        return enter(row, s, station, turn);
+    // An operation for the errand's call makes so many own turns; a station at rest begins the call with it.
+    fn acted(&mut self, e: Errand, turns: u32)
+        requires { Takes self.old e }
+        ensures { Changes self.old (acts_for e turns (next_in self.old)) self.new }
+    {
+        let at = e.station as usize;
+        let c = e.call as usize;
+        self.row[OWN + c] = turns;
+        if e.rests {
+            self.row[HEAD + at] = self.row[NEXT + c];
+            self.row[LATEST + at] = e.call;
+            self.tally.begun += 1;
+        }
     }
-    s
-}
 
-// A turn that ended its call with a result.
-pub(crate) fn finished(row: &mut [u32], s: Tally, e: Errand, f: Finish) -> Tally
-    requires { RowFits row.old s × (HasPlaces e × ((s.begun < 65536) × (s.ended < 65536))) }
-    ensures { Becomes row.old s (finishes e f (part_of row.old next_part)) row.new result }
-{
-    let c = e.call as usize;
-    let turn = e.turn;
-    let took = f.own;
-    let result = f.result;
-    let a = acted(row, s, e, took);
-    let b = at_once(row, a, e);
-    row[RESULT + c] = result;
-    row[LAST + c] = turn;
-    Tally {
-        idle: b.idle,
-        begun: b.begun,
-        ended: b.ended + 1,
-        listed: b.listed,
+    // A turn with an operation that did not end its call.
+    #[tactic(auto, unfolding(crate::specs::Book::goes_on, crate::specs::Book::all_enter))]
+    fn operated(&mut self, e: Errand, o: Operation)
+        requires { Takes self.old e × Within o }
+        ensures { Changes self.old (goes_on e o (next_in self.old) (wait_in self.old)) self.new }
+    {
+        self.acted(e, o.own);
+        if let Some(saw) = o.raise {
+            self.raise(saw, o.n, e.turn);
+        }
     }
-}
 
-// A turn passes with nothing to do.
-pub(crate) fn idled(s: Tally) -> Tally
-    requires { s.idle < 65536 }
-    ensures { result ≡ one_idle s }
-{
-    Tally {
-        idle: s.idle + 1,
-        begun: s.begun,
-        ended: s.ended,
-        listed: s.listed,
+    // A call that ends in its first turn has its point there.
+    #[tactic(auto, using(crate::proofs::Ledgers::still), unfolding(crate::specs::Book::all_enter))]
+    fn at_once(&mut self, e: Errand)
+        requires { Fits self.old × HasPlaces e }
+        ensures { Changes self.old (all_enter e.turn (cond e.rests (e.station ∷ []) [])) self.new }
+    {
+        if e.rests {
+            self.enter(e.station, e.turn);
+        }
     }
-}
 
-// A turn that did not end its call: idle, an operation after which the call goes on, or refused, which counts for nothing.
-pub(crate) fn not_ended(row: &mut [u32], s: Tally, x: Answer, e: Errand, o: Operation) -> Tally
-    requires { RowFits row.old s × (HasPlaces e × ((s.begun < 65536) × ((o.n < by_station) × ((o.saw.pid < by_station) × (s.idle < 65536))))) }
-    ensures { Becomes row.old s (unended x e o (part_of row.old next_part) (part_of row.old wait_part)) row.new result }
-{
-    match x {
-        Answer::Idle => idled(s),
-        Answer::Going => operated(row, s, e, o),
-        Answer::Ended { result: _, own: _ } => s,
-        Answer::Refused(_) => s,
+    // A turn that ended its call with a result.
+    pub(crate) fn finished(&mut self, e: Errand, f: Finish)
+        requires { Takes self.old e }
+        ensures { Changes self.old (finishes e f (next_in self.old)) self.new }
+    {
+        self.acted(e, f.own);
+        self.at_once(e);
+        let c = e.call as usize;
+        self.row[RESULT + c] = f.result;
+        self.row[LAST + c] = e.turn;
+        self.tally.ended += 1;
+    }
+
+    // A turn passes with nothing to do.
+    pub(crate) fn idled(&mut self)
+        requires { Fits self.old × (self.old.tally.idle < 65536) }
+        ensures { Changes self.old idles self.new }
+    {
+        self.tally.idle += 1;
+    }
+
+    // A turn that did not end its call: idle, an operation after which the call goes on, or refused, which counts for nothing.
+    #[tactic(auto, using(crate::proofs::Ledgers::still), unfolding(crate::specs::Book::unended))]
+    pub(crate) fn not_ended(&mut self, x: Answer, e: Errand, o: Operation)
+        requires { Takes self.old e × Within o }
+        ensures { Changes self.old (unended x e o (next_in self.old) (wait_in self.old)) self.new }
+    {
+        match x {
+            Answer::Idle => self.idled(),
+            Answer::Going => self.operated(e, o),
+            Answer::Ended { .. } | Answer::Refused(_) => {}
+        }
     }
 }

@@ -1,6 +1,6 @@
 // A run of a file: calls out of its table are offered to the stations, turn by turn, and a book is kept of what took effect when, in one row of numbers.
 // Its modules: parts (where the row's parts start), calls (which call is whose next), book (what is kept by stations and by calls), drive (the loop over
-// the turns), ran (the run of a whole file), zeros, tracing (what the rooms above have of a run).
+// the turns), ran (the run of a whole file), tracing (what the rooms above have of a run).
 #![tactic(auto)]
 
 use bench::Bench;
@@ -12,17 +12,13 @@ mod drive;
 mod parts;
 mod ran;
 mod tracing;
-mod zeros;
 
 pub use parts::{BY_CALL, LAST, LIST, OWN, PLACES, POINT, RESULT};
 pub use tracing::traced;
 
-// The numbers of a run: the calls of its table, its turns, idle turns, calls begun, ended and listed, and V at its end. Refused, all but refused and k
-// are zero.
-#[derive(Clone, Copy)]
+// The numbers of a run: the calls of its table, its turns, idle turns, calls begun, ended and listed, and V at its end.
+#[derive(Clone, Copy, PartialEq, Eq)]
 pub struct Trace {
-    pub refused: u32,
-    pub k: usize,
     pub calls: usize,
     pub turns: u32,
     pub idle: u32,
@@ -34,7 +30,7 @@ pub struct Trace {
 }
 
 // The counts of a run so far: idle turns, calls begun, calls ended, calls listed.
-#[derive(Clone, Copy)]
+#[derive(Clone, Copy, PartialEq, Eq, Default)]
 pub struct Tally {
     pub idle: u32,
     pub begun: u32,
@@ -42,7 +38,14 @@ pub struct Tally {
     pub listed: u32,
 }
 
-// What a turn is for: its number, its station, the call, and whether the station was at rest.
+// The book of a run: the row that it is kept in, which is lent, and its counts.
+#[derive(Drop)]
+pub(crate) struct Ledger<'a> {
+    pub row: &'a mut [u32],
+    pub tally: Tally,
+}
+
+// What a turn is for that is not idle: its number, its station, the call, and whether the station was at rest.
 #[derive(Clone, Copy)]
 pub(crate) struct Errand {
     pub turn: u32,
@@ -51,12 +54,11 @@ pub(crate) struct Errand {
     pub rests: bool,
 }
 
-// What a turn's operation that did not end its call was: the own turns made, whether V.seq was raised, to whose claim, and of how many stations.
+// What a turn's operation that did not end its call was: the own turns made, the claim that V.seq was raised to, if it was, and of how many stations.
 #[derive(Clone, Copy)]
 pub(crate) struct Operation {
     pub own: u32,
-    pub raises: bool,
-    pub saw: Claim,
+    pub raise: Option<Claim>,
     pub n: u32,
 }
 

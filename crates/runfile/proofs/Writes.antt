@@ -7,7 +7,7 @@ use native.Mathlib.Omega.{arith}
 use borrow.Author.Tests.{eqb-true, eqb-false, eq-eqb, ne_eqb, ltb-false}
 use lib.Dec.{eqb}
 use lib.ListN.{length, drop, length-append, length-drop}
-use lib.Seq.{sets, drop_at}
+use lib.Seq.{drop_at}
 use Rattle.rules.specs.Row.{Verdict}
 use Rattle.rules.specs.Row.{verdict_of}
 use Rattle.rules.proofs.Facts.{either_way}
@@ -17,7 +17,6 @@ use Rattle.runfile.specs.Layout.{records, trailer, file_of}
 use Rattle.runfile.specs.Reading.{part_rows}
 use Rattle.runfile.specs.Writing.{file_length, length_rows, room_rows, write_rows, wrote, write_by, write_of, out_of, Written}
 use Rattle.runfile.specs.Promise.{OnlyOutput, WritesOnlyOutput}
-use Rattle.octets.proofs.Buffers.{in_front}
 use Rattle.runfile.proofs.Limits.{Within, within}
 use Rattle.runfile.proofs.Trailers.{length-trailer}
 
@@ -75,16 +74,12 @@ module _ (x n : ℕ) (table turns out : List ℕ) (v : Verdict) (e : v ≡ verdi
       let b = ne_eqb v.refused 0 h in
       record { answered = simp (sym e, b); left = simp (sym e, b, b) }
 
-  pub writes : v.refused ≡ 0 → (after : List ℕ) → after ≡ sets out 0 (file_of x n table turns)
+  pub writes : v.refused ≡ 0 → (after : List ℕ) → after ≡ file_of x n table turns ++ drop (file_length table turns) out
       → Written x n table turns out (wrote 0 0 (file_length table turns)) after
   unfolding write_of out_of
   writes h after s =
       let b = eq-eqb v.refused 0 h in
-      let f = accepted n table turns (length out) (sym (ap (λ w. w.refused) e) ∙ h) in
-      record {
-        answered = simp (sym e, b);
-        left = simp (sym e, b) (s ∙ in_front out (file_of x n table turns) (file_length table turns) (length-file x n table turns) f.fits);
-      }
+      record { answered = simp (sym e, b); left = simp (sym e, b) s }
 
 -- where no row holds, the file stands in front of the buffer
 pub clear_writes : (x n : ℕ) (table turns out : List ℕ) (answer : Numbers) (after : List ℕ) → Clear (write_rows n table turns (length out))

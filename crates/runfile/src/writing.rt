@@ -1,7 +1,5 @@
 // A run is written as a file into a lent buffer.
-ghost use Rattle.std.specs.Prelude.{◌≡◌, ◌+◌, ◌≤◌, length};
-ghost use Rattle.std.proofs.lemmas.List.Edits.{sets};
-ghost use Rattle.octets.specs.Bytes.{bytes};
+ghost use Rattle.std.specs.Prelude.{◌≡◌, ◌≤◌, ◌++◌, length, drop};
 ghost use Rattle.rules.specs.Row.{verdict_of};
 ghost use Rattle.rules.specs.Reason.{numbers, verdict_in};
 ghost use Rattle.runfile.specs.Layout.{trailer_bytes, file_of};
@@ -11,38 +9,22 @@ use crate::Trailer;
 use crate::checks::{limits, parts};
 use rules::Reason;
 
-// Copies s into the buffer, from place at on.
-fn lay(out: &mut [u8], at: usize, s: &[u8])
-    requires { at + length s.now ≤ length out.old }
-    ensures { out.new ≡ sets out.old at s.now }
+fn put_trailer(out: &mut [u8], z: Trailer)
+    requires { length out.old ≡ 16 }
+    ensures { out.new ≡ trailer_bytes z }
 {
-    out[at..at + s.len()].copy_from_slice(s);
-}
-
-// Writes the k bytes of x into the buffer, from place at on.
-fn put(out: &mut [u8], at: usize, k: usize, x: u32)
-    requires { at + k ≤ length out.old }
-    ensures { out.new ≡ sets out.old at (bytes k x) }
-{
-    octets::store(&mut out[at..at + k], u64::from(x));
-}
-
-fn put_trailer(out: &mut [u8], at: usize, z: Trailer)
-    requires { at + 16 ≤ length out.old }
-    ensures { out.new ≡ sets out.old at (trailer_bytes z) }
-{
-    put(out, at, 4, z.x);
-    put(out, at + 4, 1, z.n);
-    put(out, at + 5, 1, z.form);
-    put(out, at + 6, 2, z.q);
-    put(out, at + 8, 4, z.first);
-    put(out, at + 12, 4, z.second);
+    octets::store(&mut out[0..4], u64::from(z.x));
+    octets::store(&mut out[4..5], u64::from(z.n));
+    octets::store(&mut out[5..6], u64::from(z.form));
+    octets::store(&mut out[6..8], u64::from(z.q));
+    octets::store(&mut out[8..12], u64::from(z.first));
+    octets::store(&mut out[12..16], u64::from(z.second));
 }
 
 // Writes the whole file to the front of the buffer. Its length is bounded so that the trailer's numbers fit their fields.
 fn put_file(out: &mut [u8], x: u32, n: u32, table: &[u8], turns: &[u8])
     requires { (file_length table.now turns.now ≤ length out.old) × (file_length table.now turns.now ≤ 65536) }
-    ensures { out.new ≡ sets out.old 0 (file_of x n table.now turns.now) }
+    ensures { out.new ≡ file_of x n table.now turns.now ++ drop (file_length table.now turns.now) out.old }
 {
     let a = table.len();
     let t = turns.len();
@@ -55,9 +37,9 @@ fn put_file(out: &mut [u8], x: u32, n: u32, table: &[u8], turns: &[u8])
         first: (t + 12 * q) as u32,
         second: t as u32,
     };
-    lay(out, 0, table);
-    lay(out, a, turns);
-    put_trailer(out, a + t, z);
+    out[..a].copy_from_slice(table);
+    out[a..a + t].copy_from_slice(turns);
+    put_trailer(&mut out[a + t..a + t + 16], z);
 }
 
 // The writer's refusals, with a buffer of room bytes.

@@ -2,13 +2,12 @@
 use mathlib.Core.Path.{◌≡◌, refl, ◌∙◌, sym, ap}
 use mathlib.Core.Bool.{false≢true}
 use mathlib.Core.List.{List}
-use Prim.Native.Nat.{ℕ, ◌≤◌, min}
+use Prim.Native.Nat.{ℕ, ◌≤◌}
 use native.Mathlib.Omega.{arith}
 use borrow.Author.Tests.{eq-eqb, ne_eqb}
 use lib.ListN.{length}
 use Rattle.rules.specs.Limits.{turn_limit}
-use Rattle.script.specs.Wrote.{Wrote}
-use Rattle.script.specs.Output.{refused_text, output_of, OutputSettled}
+use Rattle.script.specs.Output.{refused_text, output_of, OutputTo, OutputSettled}
 use Rattle.script.proofs.Outputs as Outputs
 use Rattle.runfile.specs.Reading.{read_of}
 use Rattle.runfile.proofs.Bounds.{number_read, k_read}
@@ -40,12 +39,12 @@ module _ (file out after : List ℕ) (p : Numbers) (w : PrintedTo file out p aft
       record { refused = rw (eq-eqb x.refused 0 e) refl; output = rw w.answered (Outputs.text_there answered w.left e) }
 
   -- refused: the line, as far as the buffer goes
-  pub line_there : (p.refused ≡ 0 → ⊥) → {after' : List ℕ} {j : ℕ} → Wrote after after' 0 j (refused_text p.refused p.k) → (len : ℕ)
-      → len ≡ min j (length after) → PrintOutput file out (Refusal len) after'
+  pub line_there : (p.refused ≡ 0 → ⊥) → {after' : List ℕ} {len : ℕ} → OutputTo (refused_text p.refused p.k) after len after'
+      → PrintOutput file out (Refusal len) after'
   unfolding printed_on
-  line_there h v len m =
+  line_there h v =
       let n : x.refused ≡ 0 → ⊥ = λ z. h (ap (λ (p : Numbers). p.refused) w.answered ∙ z) in
-      record { refused = rw (ne_eqb x.refused 0 n) refl; output = Outputs.line_there answered w.left n (rw w.answered at v) len m }
+      record { refused = rw (ne_eqb x.refused 0 n) refl; output = Outputs.line_there answered w.left n (rw w.answered at v) }
 
 -- which it is and how many bytes are there tell the outcome
 same_outcome : (a b : Outcome) → is_refusal a ≡ is_refusal b → shown a ≡ shown b → a ≡ b

@@ -3,7 +3,7 @@ ghost use Rattle.runtext.specs.Output.{PrintOutput};
 
 use crate::Outcome;
 use crate::printing::print;
-use script::Page;
+use script::told_refusal;
 
 // Writes it to the front of the buffer, as far as that goes, and tells which it is and how many of its bytes are there.
 pub fn output(file: &[u8], out: &mut [u8]) -> Outcome
@@ -11,10 +11,6 @@ pub fn output(file: &[u8], out: &mut [u8]) -> Outcome
 {
     match print(file, out) {
         Ok(len) => Outcome::Text(len),
-        Err(reason) => {
-            let mut page = Page::new(out);
-            page.refused(reason.number(), reason.k() as u32);
-            Outcome::Refusal(page.at.min(page.out.len()))
-        }
+        Err(reason) => Outcome::Refusal(told_refusal(out, reason.number(), reason.k() as u32)),
     }
 }

@@ -2,7 +2,7 @@
 use mathlib.Core.Path.{◌≡◌, refl, ◌∙◌, sym, ap}
 use mathlib.Core.Bool.{cond}
 use mathlib.Core.List.{List, ◌++◌}
-use Prim.Native.Nat.{ℕ, ◌^◌, ◌<◌, ◌≤◌, min}
+use Prim.Native.Nat.{ℕ, ◌^◌, ◌<◌, ◌≤◌}
 use native.Mathlib.Omega.{arith}
 use borrow.Author.Tests.{eq-eqb, ne_eqb, eqb-true, eqb-false, le-ltb, ltb-false}
 use lib.Dec.{eqb, ltb}
@@ -11,7 +11,6 @@ use lib.Seq.{take_at}
 use Rattle.rules.specs.Limits.{turn_limit}
 use Rattle.rules.proofs.Facts.{either_way}
 use Rattle.octets.proofs.Buffers.{in_front}
-use Rattle.script.specs.Wrote.{Wrote}
 use Rattle.script.specs.Output.{refused_text, output_of, OutputTo, OutputSettled, OutputWhole}
 use Rattle.script.proofs.Decimals.{length-decimal-32}
 
@@ -25,15 +24,6 @@ text_shown : (refused k : ℕ) (text out : List ℕ) {after : List ℕ} → refu
 unfolding output_of
 text_shown refused k text out e h w =
     rw (eq-eqb refused 0 e) (record { shown = omega arith; left = w ∙ sym (in_front out text (length text) refl h) })
-
--- the line of a refusal, written from the front on
-line_shown : (refused k : ℕ) (text out : List ℕ) {after : List ℕ} {j : ℕ} → (refused ≡ 0 → ⊥) → Wrote out after 0 j (refused_text refused k)
-    → (len : ℕ) → len ≡ min j (length out) → OutputTo (output_of refused k text) out len after
-unfolding output_of
-line_shown refused k text out e w len m =
-    let a = w.after in
-    let l = w.lent in
-    rw (ne_eqb refused 0 e) (record { shown = omega arith; left = w.stands })
 
 -- what an answer tells of a text and a buffer of room bytes: K is small, and a text that is not refused has its place and length
 pub record Answered (text : List ℕ) (room refused k len : ℕ) : Type 0 where
@@ -75,11 +65,12 @@ module _ {text out : List ℕ} {refused k len : ℕ} (a : Answered text (length 
       let f = a.whole z in
       rw f.0 (text_shown refused k text out z f.1 (left ∙ rw (eq-eqb refused 0 z) refl))
 
-  pub line_there : (refused ≡ 0 → ⊥) → {after' : List ℕ} {j : ℕ} → Wrote after after' 0 j (refused_text refused k) → (shown : ℕ) → shown ≡ min j (length after)
+  pub line_there : (refused ≡ 0 → ⊥) → {after' : List ℕ} {shown : ℕ} → OutputTo (refused_text refused k) after shown after'
       → OutputTo (output_of refused k text) out shown after'
-  line_there h v shown m =
+  unfolding output_of
+  line_there h v =
       let e : after ≡ out = left ∙ rw (ne_eqb refused 0 h) refl in
-      line_shown refused k text out h (rw e at v) shown (rw e at m)
+      rw (ne_eqb refused 0 h) (rw e at v)
 
 pub outputs_are_settled : OutputSettled
 unfolding OutputSettled

@@ -7,7 +7,7 @@ ghost use Rattle.std.specs.Prelude.{◌≡◌, [], ◌∷◌, ◌≤◌};
 ghost use Rattle.script.specs.Wrote.{last_place};
 ghost use Rattle.script.specs.Decimal.{decimal};
 ghost use Rattle.script.specs.Kind.{kind_word};
-ghost use Rattle.script.specs.Output.{refused_text, OutputSettled, OutputWhole};
+ghost use Rattle.script.specs.Output.{refused_text, OutputTo, OutputSettled, OutputWhole};
 ghost use Rattle.script.specs.Promise.{WritersSettled};
 
 mod number;
@@ -90,6 +90,15 @@ impl<'a> Page<'a> {
         self.decimal(k);
         self.put(b'\n');
     }
+}
+
+// The line that tells a refusal and its K, at the front of a lent buffer as far as that goes; how many of its bytes are there.
+pub fn told_refusal(out: &mut [u8], number: u32, k: u32) -> usize
+    ensures { OutputTo (refused_text number k) out.old result out.new }
+{
+    let mut page = Page::new(out);
+    page.refused(number, k);
+    page.at.min(page.out.len())
 }
 
 // The contract of a writer allows one buffer and one next place for each input.

@@ -1,6 +1,9 @@
 -- How long a report is: a line has 38 bytes at most, the last one 41, all of them 38,953. Assumes nothing.
 use mathlib.Core.Path.{◌≡◌}
+use mathlib.Core.Bool.{Bool, true, false, not}
 use mathlib.Core.List.{List}
+use Rattle.std.specs.Prelude.{Option, None, Some, IfSome}
+use Rattle.std.specs.Bool.{then_some}
 use Prim.Native.Nat.{ℕ, zero, suc, ◌+◌, ◌*◌, ◌^◌, ◌<◌, ◌≤◌}
 use native.Mathlib.Omega.{arith}
 use lib.Dec.{eqb}
@@ -18,27 +21,29 @@ use Rattle.run.proofs.Files.{reads_well}
 use Rattle.limits.specs.Small.{Small, SmallNumbers}
 use Rattle.limits.proofs.Promised.{small_numbers}
 use Rattle.lines.specs.declared.Line.{Line}
-use Rattle.lines.specs.Lines.{spaced_number, answer_word, line_text, line_of, lines_text, last_text, sheet_text}
+use Rattle.lines.specs.Lines.{spaced_number, answered, line_text, line_of, lines_text, last_text, sheet_text}
 use Rattle.sheet.specs.Report.{run_text, report_text}
 
 digits : (n k : ℕ) → n < 10 ^ k → 0 < k → length (spaced_number n) ≤ k + 1
 digits n k h g = simp length-append (omega (arith, length-decimal n k h g))
 
-length-answer : (l : Line) → l.answer < 2 ^ 32 → length (answer_word l) ≤ 10
-unfolding answer_word
-length-answer l h =
-    either_way l.ended
-    (λ t. rw t
-    (either_way (eqb l.kind 1)
-    (λ s. rw s (either_way (eqb l.answer 0) (λ z. rw z (omega arith)) (λ o. rw o (omega arith))))
-    (λ s. rw s (length-decimal-32 l.answer h))))
-    (λ f. rw f (omega arith))
+length-answer : (kind : ℕ) (answer : Option ℕ) → IfSome answer (λ x. x < 2 ^ 32) → length (answered kind answer) ≤ 10
+unfolding answered
+length-answer kind None h = omega arith
+length-answer kind (Some answer) h =
+    either_way (eqb kind 1)
+    (λ s. rw s (either_way (eqb answer 0) (λ z. rw z (omega arith)) (λ o. rw o (omega arith))))
+    (λ s. rw s (length-decimal-32 answer h))
+
+some_below : (ended : Bool) (x : ℕ) → x < 2 ^ 32 → IfSome (then_some ended x) (λ x. x < 2 ^ 32)
+some_below true x h = h
+some_below false x h = tt
 
 pub record Short (l : Line) : Type 0 where
   pub place : l.place ≤ 1024
   pub station : l.station ≤ 32
   pub call : l.call ≤ 1024
-  pub answer : l.answer < 2 ^ 32
+  pub answer : IfSome l.answer (λ x. x < 2 ^ 32)
   pub own : l.own ≤ 10
   pub point : l.point ≤ 40960
 
@@ -49,7 +54,7 @@ length-line l s =
     let h2 = digits l.station 2 (omega (arith, s.station)) (omega arith) in
     let h3 = digits l.call 4 (omega (arith, s.call)) (omega arith) in
     let h4 = length-kind l.kind in
-    let h5 = length-answer l s.answer in
+    let h5 = length-answer l.kind l.answer s.answer in
     let h6 = digits l.own 2 (omega (arith, s.own)) (omega arith) in
     let h7 = length-decimal l.point 5 (omega (arith, s.point)) (omega arith) in
     simp length-append (omega (arith, rw length-append at h1, rw length-append at h2, rw length-append at h3, h4, h5, rw length-append at h6, h7))
@@ -62,7 +67,7 @@ module _ (calls : ℕ) (table : List ℕ) (r : Run) (small : Small r) (stations 
         place = omega arith;
         station = omega (arith, stations c);
         call = small.calls i;
-        answer = small.result c;
+        answer = some_below (not (eqb (get_or r.book.last c 0) 0)) (get_or r.book.result c 0) (small.result c);
         own = small.own c;
         point = small.point c;
       }

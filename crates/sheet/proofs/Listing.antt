@@ -12,19 +12,7 @@ use Rattle.lines.specs.Lines.{line_text, line_of, lines_text, last_text, sheet_t
 
 -- the lines tell of a book what it has by call, and its list
 abbrev shown : Book → Book → Book
-shown b other =
-    record {
-      upcoming = other.upcoming;
-      latest = other.latest;
-      own = b.own;
-      result = b.result;
-      last = b.last;
-      point = b.point;
-      list = b.list;
-      idle = other.idle;
-      begun = other.begun;
-      ended = other.ended;
-    }
+shown b other = record other { own = b.own; result = b.result; last = b.last; point = b.point; list = b.list }
 
 same_lines : (table : List ℕ) (b other : Book) (i : ℕ) → lines_text table (shown b other) i ≡ lines_text table b i
 unfolding lines_text
@@ -39,16 +27,11 @@ same_sheet calls table r rest long few =
     let b = r.book in
     let other = book_of t (row_of b ++ rest) in
     let e : other ≡ shown b other =
-    λ i. record {
-      upcoming = other.upcoming;
-      latest = other.latest;
+    λ i. record other {
       own = own_back b long few rest i;
       result = result_back b long few rest i;
       last = last_back b long few rest i;
       point = point_back b long few rest i;
       list = list_back b long few rest i;
-      idle = other.idle;
-      begun = other.begun;
-      ended = other.ended;
     } in
     ap (λ z. lines_text table z (length b.list) ++ last_text t) e ∙ ap (λ l. l ++ last_text t) (same_lines table b other (length b.list))

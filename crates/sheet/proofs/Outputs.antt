@@ -1,11 +1,10 @@
 -- What the program report writes of a file, from what the report answers. Assumes nothing.
 use mathlib.Core.Path.{◌≡◌, ◌∙◌, sym, ap}
 use mathlib.Core.List.{List}
-use Prim.Native.Nat.{ℕ, ◌≤◌, min}
+use Prim.Native.Nat.{ℕ, ◌≤◌}
 use native.Mathlib.Omega.{arith}
 use lib.ListN.{length}
 use Rattle.rules.specs.Limits.{turn_limit}
-use Rattle.script.specs.Wrote.{Wrote}
 use Rattle.script.specs.Output.{refused_text, output_of, OutputTo}
 use Rattle.script.proofs.Outputs as Outputs
 use Rattle.runfile.specs.Reading.{read_of}
@@ -34,11 +33,10 @@ module _ (file out after : List ℕ) (p : Numbers) (w : ReportedTo file out p af
   text_there z = rw w.answered (Outputs.text_there answered w.left (ap (λ (p : Numbers). p.refused) (sym w.answered) ∙ z))
 
   -- refused: the line, as far as the buffer goes
-  pub line_there : (p.refused ≡ 0 → ⊥) → {after' : List ℕ} {j : ℕ} → Wrote after after' 0 j (refused_text p.refused p.k) → (len : ℕ)
-      → len ≡ min j (length after) → OutputTo (report_output file (length out)) out len after'
+  pub line_there : (p.refused ≡ 0 → ⊥) → {after' : List ℕ} {len : ℕ} → OutputTo (refused_text p.refused p.k) after len after'
+      → OutputTo (report_output file (length out)) out len after'
   unfolding reported_on
-  line_there h v len m =
-      Outputs.line_there answered w.left (λ z. h (ap (λ (p : Numbers). p.refused) w.answered ∙ z)) (rw w.answered at v) len m
+  line_there h v = Outputs.line_there answered w.left (λ z. h (ap (λ (p : Numbers). p.refused) w.answered ∙ z)) (rw w.answered at v)
 
 pub output_is_whole : ReportOutputWhole
 unfolding ReportOutputWhole report_of

@@ -1,11 +1,11 @@
 -- What the report answers and leaves in the buffer, from the trace of the run. Assumes nothing.
 use mathlib.Core.Path.{◌≡◌, refl, ◌∙◌, sym, ap}
-use mathlib.Core.Bool.{Bool, true, false}
-use mathlib.Core.List.{List, ◌++◌}
+use mathlib.Core.Bool.{true, false}
+use mathlib.Core.List.{List}
 use Prim.Native.Nat.{ℕ, ◌*◌, ◌≤◌}
 use native.Mathlib.Omega.{arith}
 use borrow.Author.Tests.{eq-eqb, eqb-true, leb-true, leb-false, lt-ltb, le-ltb}
-use lib.Dec.{leb, ltb, eqb}
+use lib.Dec.{leb, eqb}
 use lib.ListN.{length, drop}
 use Rattle.octets.specs.Bytes.{AllBytes}
 use Rattle.rules.proofs.Facts.{either_way}
@@ -17,13 +17,12 @@ use Rattle.runfile.proofs.Answers.{by_answer, inside}
 use Rattle.run.specs.declared.Trace.{Trace}
 use Rattle.run.specs.Drive.{run_of_file}
 use Rattle.run.specs.Row.{row_places}
-use Rattle.run.specs.Trace.{row_of, trace_by, trace_of, TracedTo, book_of}
+use Rattle.run.specs.Trace.{TraceNumbers, given_trace, trace_by, trace_of, TracedTo, book_of}
 use Rattle.run.proofs.Back.{file_long}
-use Rattle.rules.specs.Reason.{Numbers}
 use Rattle.limits.specs.Small.{SmallNumbers}
 use Rattle.limits.proofs.Promised.{small_numbers}
 use Rattle.lines.specs.Lines.{sheet_text}
-use Rattle.sheet.specs.Report.{report_text, reported, report_of, reported_on, LaidOn, ReportedTo, AlwaysEnough, ReportSettled}
+use Rattle.sheet.specs.Report.{report_text, reported, report_of, reported_on, ReportedTo, AlwaysEnough, ReportSettled}
 use Rattle.sheet.proofs.Listing.{same_sheet}
 use Rattle.sheet.proofs.Lengths.{length-report}
 
@@ -31,84 +30,78 @@ use Rattle.sheet.proofs.Lengths.{length-report}
 from_front : (file : List ℕ) → (read_of file).start ≡ 0
 from_front file = by_answer file (λ r. r.start ≡ 0) (λ r k n. refl) (λ g. refl)
 
--- a sheet that is measured on a buffer of one byte
-pub measured : {a b : List ℕ} {j : ℕ} (text : List ℕ) (room : ℕ) → Wrote a b 0 j text → length text ≤ 40960 → leb j room ≡ leb (length text) room
-measured text room w h = ap (λ k. leb k room) (size w (omega arith))
+-- the trace is the file's refusal
+pub refused : (file out row row' : List ℕ) (t : TraceNumbers) → length row ≡ row_places → TracedTo file row t row' → (t.refused ≡ 0 → ⊥)
+    → ReportedTo file out (reported t.refused t.k 0) out
+unfolding report_of reported_on trace_of
+refused file out row row' t f e h =
+    let given : t ≡ trace_of file row_places = e.answered ∙ ap (trace_of file) f in
+    either_way (eqb (read_of file).refused 0)
+    (λ b. absurd (h (ap (λ (t : TraceNumbers). t.refused) given ∙ rw b refl)))
+    (λ b.
+    let same : t.refused ≡ (read_of file).refused = ap (λ (t : TraceNumbers). t.refused) given ∙ rw b refl in
+    let k : t.k ≡ (read_of file).k = ap (λ (t : TraceNumbers). t.k) given ∙ rw b refl in
+    record { answered = simp (b, same, k); left = simp (b, b) })
 
--- a text that has room is in front of the rest of the buffer, and one that has none is not written
-pub has_none : (text out : List ℕ) (fits : Bool) → fits ≡ leb (length text) (length out) → fits ≡ false → LaidOn text out (reported 14 0 0) out
-has_none text out fits tested none =
-    let k = lt-ltb (length out) (length text) (leb-false (length text) (length out) (sym tested ∙ none)) in
-    record { answered = simp k; left = simp k }
+-- what a trace's numbers tell beside its refusal
+abbrev trace_in : TraceNumbers → Trace
+trace_in n = record { calls = n.calls; turns = n.turns; idle = n.idle; begun = n.begun; ended = n.ended; listed = n.listed; val = n.val; seq = n.seq }
 
-pub has_some : (text out : List ℕ) (fits : Bool) {after : List ℕ} {j : ℕ} → fits ≡ leb (length text) (length out) → fits ≡ true → length text ≤ 40960
-    → Wrote out after 0 j text → LaidOn text out (reported 0 0 j) after
-has_some text out fits tested all few v =
-    let l = leb-true (length text) (length out) (sym tested ∙ all) in
-    let k = le-ltb (length out) (length text) l in
-    let m = size v (omega arith) in
-    record { answered = simp (k, m); left = simp k (in_front v l) }
-
-module _ (file out row row' : List ℕ) (t : Trace) (f : length row ≡ row_places) (e : TracedTo file row t row') where
-  given : t ≡ trace_of file row_places
+-- or the file's run
+module _ (file row row' : List ℕ) (t : Trace) (f : length row ≡ row_places) (e : TracedTo file row (given_trace t) row') where
+  given : given_trace t ≡ trace_of file row_places
   given = e.answered ∙ ap (trace_of file) f
 
-  -- the trace is the file's refusal
-  pub refused : (t.refused ≡ 0 → ⊥) → ReportedTo file out (reported t.refused t.k 0) out
-  unfolding report_of reported_on trace_of
-  refused h =
-      either_way (eqb (read_of file).refused 0)
-      (λ b. absurd (h (ap (λ (t : Trace). t.refused) given ∙ rw b refl)))
-      (λ b.
-      let same : t.refused ≡ (read_of file).refused = ap (λ (t : Trace). t.refused) given ∙ rw b refl in
-      let k : t.k ≡ (read_of file).k = ap (λ (t : Trace). t.k) given ∙ rw b refl in
-      record { answered = simp (b, same, k); left = simp (b, b) })
+  well : (read_of file).refused ≡ 0
+  unfolding trace_of
+  well =
+      either_way (eqb (read_of file).refused 0) (λ b. eqb-true (read_of file).refused 0 b)
+      (λ b. sym (ap (λ (t : TraceNumbers). t.refused) given ∙ rw b refl))
 
-  -- or the file's run
-  module _ (z : t.refused ≡ 0) where
-    well : (read_of file).refused ≡ 0
-    unfolding trace_of
-    well =
-        either_way (eqb (read_of file).refused 0) (λ b. eqb-true (read_of file).refused 0 b)
-        (λ b. sym (ap (λ (t : Trace). t.refused) given ∙ rw b refl) ∙ z)
+  numbers : t ≡ trace_by (read_of file).q (run_of_file file)
+  unfolding trace_of
+  numbers =
+      let z : trace_of file row_places ≡ given_trace (trace_by (read_of file).q (run_of_file file)) = rw (eq-eqb (read_of file).refused 0 well) refl in
+      ap trace_in (given ∙ z)
 
-    numbers : t ≡ trace_by (read_of file).q (run_of_file file)
-    unfolding trace_of
-    numbers = given ∙ rw (eq-eqb (read_of file).refused 0 well) refl
+  -- so many calls are the file's call table, and in it
+  pub within : 12 * t.calls ≤ length file
+  within = let i = (inside file).table in omega (arith, ap (λ (t : Trace). t.calls) numbers)
 
-    calls_read : t.calls ≡ (read_of file).q
-    calls_read = ap (λ (t : Trace). t.calls) numbers
+  -- of a table that is so many calls of the file
+  module _ (h : AllBytes file) (table : List ℕ) (g : table ≡ part file 0 (12 * t.calls)) where
+    abbrev text : List ℕ
+    text = sheet_text t table (book_of t row')
 
-    -- so many calls are the file's call table, and in it
-    pub within : 12 * t.calls ≤ length file
-    within = let i = (inside file).table in omega (arith, calls_read)
+    the_table : table ≡ table_of file
+    the_table = g ∙ rw (numbers, from_front file)
 
-    pub the_table : part file 0 (12 * t.calls) ≡ table_of file
-    the_table = rw (calls_read, from_front file)
+    same_text : text ≡ report_text file
+    unfolding report_text SmallNumbers
+    same_text =
+        let few = (small_numbers file h well).listed in
+        rw (numbers, the_table, e.left) (same_sheet (read_of file).q (table_of file) (run_of_file file) (drop row_places row) (file_long file) (omega arith))
 
-    left : row' ≡ row_of (run_of_file file).book ++ drop row_places row
-    left = e.left ∙ rw (eq-eqb t.refused 0 z) refl
+    pub at_most : length text ≤ 40960
+    at_most = rw same_text (length-report file h well)
 
-    module _ (h : AllBytes file) where
-      module _ (table : List ℕ) (g : table ≡ table_of file) where
-        same_text : sheet_text t table (book_of t row') ≡ report_text file
-        unfolding report_text SmallNumbers
-        same_text =
-            let few = (small_numbers file h well).listed in
-            rw (numbers, g, left) (same_sheet (read_of file).q (table_of file) (run_of_file file) (drop row_places row) (file_long file) (omega arith))
+    -- the buffer is too short for the text, or the text is in it
+    module _ (out : List ℕ) where
+      pub too_long : false ≡ leb (length text) (length out) → ReportedTo file out (reported 14 0 0) out
+      unfolding report_of reported_on
+      too_long l =
+          let b = eq-eqb (read_of file).refused 0 well in
+          let k = lt-ltb (length out) (length (report_text file)) (rw same_text at (leb-false (length text) (length out) (sym l))) in
+          record { answered = simp (b, k); left = simp (b, k) }
 
-        pub at_most : length (sheet_text t table (book_of t row')) ≤ 40960
-        at_most = rw same_text (length-report file h well)
-
-        -- the sheet in the buffer is the file's report
-        pub the_report : {r : Numbers} {after : List ℕ} → LaidOn (sheet_text t table (book_of t row')) out r after → ReportedTo file out r after
-        unfolding report_of reported_on
-        the_report v =
-            let b = eq-eqb (read_of file).refused 0 well in
-            let l = rw same_text at v in
-            either_way (ltb (length out) (length (report_text file)))
-            (λ k. record { answered = l.answered ∙ rw b refl; left = l.left ∙ rw (b, k) refl })
-            (λ k. record { answered = l.answered ∙ rw b refl; left = l.left ∙ rw (b, k) refl })
+      pub in_place : {after : List ℕ} {j : ℕ} → true ≡ leb (length text) (length out) → Wrote out after 0 j text → ReportedTo file out (reported 0 0 j) after
+      unfolding report_of reported_on
+      in_place l v =
+          let b = eq-eqb (read_of file).refused 0 well in
+          let m = leb-true (length text) (length out) (sym l) in
+          let k = le-ltb (length out) (length (report_text file)) (rw same_text at m) in
+          let n = size v (omega (arith, at_most)) in
+          record { answered = simp (b, k, n, same_text); left = simp (b, k) (rw same_text at (in_front v m)) }
 
 pub always_enough : AlwaysEnough
 unfolding AlwaysEnough report_of

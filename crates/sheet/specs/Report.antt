@@ -31,11 +31,6 @@ unfoldable pub reported_on : List ℕ → List ℕ → List ℕ
 reported_on file out =
     cond (eqb (report_of file (length out)).refused 0) (report_text file ++ drop (length (report_text file)) out) out
 
--- a text in the buffer, or 14 and the buffer as it was where it is shorter than the text
-pub record LaidOn (text out : List ℕ) (answer : Numbers) (after : List ℕ) : Type 0 where
-  pub answered : answer ≡ cond (ltb (length out) (length text)) (reported 14 0 0) (reported 0 0 (length text))
-  pub left : after ≡ cond (ltb (length out) (length text)) out (text ++ drop (length text) out)
-
 -- the answer and the buffer that the report hands back
 pub record ReportedTo (file out : List ℕ) (answer : Numbers) (after : List ℕ) : Type 0 where
   pub answered : answer ≡ report_of file (length out)

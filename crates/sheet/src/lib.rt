@@ -8,11 +8,3 @@ mod showing;
 
 pub use reporting::{answer_is_settled, buffer_is_enough, report};
 pub use showing::{output, output_is_whole};
-
-// refused and k are the file's, or refused is 14; len is the number of bytes written, and 0 where refused is not.
-#[derive(Clone, Copy)]
-pub struct Reported {
-    pub refused: u32,
-    pub k: usize,
-    pub len: usize,
-}

@@ -1,12 +1,16 @@
+use mathlib.Core.Path.{sym}
 use native.Mathlib.Omega.{arith}
-use Rattle.lines.proofs.Listing.{in_row, past_row, past_part}
+use lib.ListN.{drop}
+use lib.Seq.{get_or-take, get_or-drop}
+use Rattle.std.proofs.Common.{rules}
+use Rattle.std.proofs.lemmas.List.{get_or_past, length-take}
+use Rattle.run.specs.Row.{by_call}
 use Rattle.lines.proofs.cell.Goals as goal
 
-pub returns-then-i-ge-BY_CALL : goal.returns-then-i-ge-BY_CALL
-returns-then-i-ge-BY_CALL c = let a = c.args in past_part a.row.now a.start a.i (omega arith)
-
-pub returns-then-row-at : goal.returns-then-row-at
-returns-then-row-at c = let a = c.args in past_row a.row.now a.start a.i (omega arith) (omega arith)
+pub returns-then-at-ge-BY_CALL : goal.returns-then-at-ge-BY_CALL
+returns-then-at-ge-BY_CALL c = sym (get_or_past _ c.args.i 0 (simp length-take (omega arith)))
 
 pub returns : goal.returns
-returns c = let a = c.args in in_row a.row.now a.start a.i (omega arith)
+returns c =
+    let a = c.args in
+    rw (get_or-take by_call (drop a.start a.row.now) a.i 0 (omega arith), get_or-drop a.start a.row.now a.i 0) (search rules)

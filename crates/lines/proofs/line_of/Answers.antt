@@ -1,7 +1,7 @@
-use Rattle.lines.proofs.Listing.{line_read}
+use mathlib.Core.Path.{refl}
+use Rattle.run.specs.Row.{start_of, size_of, part_of}
 use Rattle.lines.proofs.line_of.Goals as goal
 
 pub returns : goal.returns
-returns c =
-    let a = c.args in
-    line_read a.table.now a.row.now a.t a.place a.c _ _ _ _ _ c.call_at-r.ensures c.cell-own.ensures c.cell-answer.ensures c.cell-last.ensures c.cell-point.ensures
+unfolding start_of size_of part_of
+returns c = λ t. simp (c.call_at-r.ensures, c.then_some.ensures, c.cell-answer.ensures, c.cell.ensures, c.cell-2.ensures, c.cell-3.ensures) refl

@@ -1,10 +1,9 @@
-use Rattle.script.proofs.Writes.{and_then}
+use Rattle.script.proofs.Pages.{then}
 use Rattle.lines.specs.Lines.{line_text}
 use Rattle.lines.proofs.put_line.Goals as goal
 
 pub returns : goal.returns
 unfolding line_text
 returns c =
-    and_then (and_then (and_then (and_then (and_then (and_then (and_then c.put_field-o1.ensures c.put_field-o2.ensures) c.put_field-o3.ensures)
-    (and_then c.kind-o4.ensures c.put-o5.ensures))
-    (and_then c.put_answer-o6.ensures c.put-o7.ensures)) c.put_field-o8.ensures) c.decimal-o9.ensures) c.put.ensures
+    then (then (then (then (then (then (then c.put_field.ensures c.put_field-2.ensures) c.put_field-3.ensures) (then c.kind.ensures c.put.ensures))
+    (then c.put_answer.ensures c.put-2.ensures)) c.put_field-4.ensures) c.decimal.ensures) c.put-3.ensures

@@ -1,10 +1,10 @@
-use mathlib.Core.Path.{sym}
-use Rattle.script.proofs.Writes.{and_then}
+use borrow.Author.Rules.{rules}
+use Rattle.script.proofs.Pages.{then}
 use Rattle.messages.specs.Complaint.{complaint_of}
 use Rattle.messages.proofs.complain.Goals as goal
 
 pub returns : goal.returns
 unfolding complaint_of
 returns c =
-    simp (sym c.narrow.ensures)
-    (and_then (and_then (and_then (and_then c.word-o1.ensures c.decimal-o2.ensures) c.word-o3.ensures) c.put_words-o4.ensures) c.put.ensures)
+    let w = then (then (then (then c.word.ensures c.decimal.ensures) c.word-2.ensures) c.word-3.ensures) c.put.ensures in
+    search rules

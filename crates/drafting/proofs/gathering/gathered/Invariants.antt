@@ -1,11 +1,7 @@
--- The loop keeps: what the bytes so far give stands in the two rows.
-use Prim.Native.Nat.{◌-◌, ◌≤◌}
-use lib.ListN.{length}
-use Rattle.drafting.proofs.Fills.{Gathered}
+-- The loop keeps: what the bytes so far give stands on the two pages.
+use lib.ListN.{take}
+use Rattle.drafting.specs.Gather.{Gathered}
 use Rattle.drafting.proofs.gathering.gathered.Given as goal
 
 abbrev pub invariant-loop-i : goal.invariant-loop-i
-invariant-loop-i l = (l.i ≤ length l.text) × Gathered l.text l.i l.p.scan l.initial.table l.table l.p.table l.initial.turns l.turns l.p.turns
-
-abbrev pub decreases-loop-i : goal.decreases-loop-i
-decreases-loop-i l = length l.text - l.i
+invariant-loop-i l = Gathered l.text l.i l.initial.calls l.calls l.initial.moves l.moves l.s (take l.i l.text)

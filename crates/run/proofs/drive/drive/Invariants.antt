@@ -1,7 +1,5 @@
 -- The loop keeps: the row holds the book of the run so far.
 use mathlib.Core.Path.{◌≡◌}
-use Prim.Native.Nat.{◌-◌}
-use lib.ListN.{length}
 use Rattle.run.specs.Row.{book_in}
 use Rattle.run.specs.Drive.{no_tally}
 use Rattle.run.proofs.Loop.{Kept, state}
@@ -9,7 +7,5 @@ use Rattle.run.proofs.drive.drive.Given as goal
 
 abbrev pub invariant-loop-k : goal.invariant-loop-k
 invariant-loop-k l =
-    (l.n ≡ l.initial.w.n) × Kept l.initial.w.n (state l.initial.w 0 (book_in l.initial.row no_tally)) l.table l.turns l.w l.row l.s l.k
-
-abbrev pub decreases-loop-k : goal.decreases-loop-k
-decreases-loop-k l = length l.turns - l.k
+    (l.book.row.ghost_name ≡ l.initial.book.row.ghost_name)
+    × Kept l.initial.w.bench.n (state l.initial.w.bench 0 (book_in l.initial.book.row.now no_tally)) l.table l.turns l.w.bench l.book.row.now l.book.tally l.k

@@ -1,25 +1,26 @@
 -- The run is made in the front of the row.
 use mathlib.Core.Path.{◌≡◌, ◌∙◌, sym, ap}
-use Rattle.runfile.specs.Reading.{ReadAnswer}
-use Rattle.runfile.specs.Reading.{read_of}
-use Rattle.run.proofs.Traces.{refused, front_cleared, too_short, long_enough}
+use Prim.Native.Nat.{ℕ, ◌<◌}
+use lib.ListN.{length, get_or}
+use lib.Seq.{length-take-le}
+use borrow.Author.Rules.{rules}
+use Rattle.std.proofs.lemmas.Result.{err_from_is_err_and}
+use Rattle.run.specs.Row.{row_places, zero_row}
+use Rattle.run.proofs.Traces.{all_zeros, refused, long_enough}
 use Rattle.run.proofs.tracing.traced.Goals as goal
 
-pub returns-then-r-ne0 : goal.returns-then-r-ne0
-returns-then-r-ne0 c = refused c.args.file.now c.args.row.now c.read-r.result _ c.read-r.ensures c.if-r-ne0.true c.no_trace.ensures
+pub returns-in_err-contents : goal.returns-in_err-contents
+returns-in_err-contents c =
+    let p = err_from_is_err_and c.from_residual.result c.from_residual.ensures.1 in
+    rw (p.1, p.2) (refused c.args.file.now c.args.row.now c.in_err-contents.field-0.0 c.in_err-contents.ensures)
 
-pub returns-then-row-lt-PLACES : goal.returns-then-row-lt-PLACES
-returns-then-row-lt-PLACES c =
-    too_short c.args.file.now c.args.row.now _ (sym (ap (λ (r : ReadAnswer). r.refused) c.read-r.ensures) ∙ c.if-r-ne0.false) c.if-row-lt-PLACES.true
-    c.no_trace-then-row-lt-PLACES.ensures
-
+-- the front is filled with zeros
 pub ran-requires : goal.ran-requires
-ran-requires c = (
-  sym (ap (λ (r : ReadAnswer). r.refused) c.read-r.ensures) ∙ c.if-r-ne0.false,
-  (front_cleared c.args.row.now _ c.if-row-lt-PLACES.false c.clear.ensures, c.read-r.ensures),
-)
+unfolding zero_row
+ran-requires c =
+    let long : length c.fill.new.self ≡ row_places = c.fill.ensures.len ∙ length-take-le row_places c.args.row.now c.if-row-lt-PLACES.false in
+    let zero : (k : ℕ) → k < row_places → get_or c.fill.new.self k 0 ≡ 0 = search rules in
+    (all_zeros c.fill.new.self row_places long zero, c.in_ok-contents.ensures)
 
 pub returns : goal.returns
-returns c =
-    let well : (read_of c.args.file.now).refused ≡ 0 = sym (ap (λ (r : ReadAnswer). r.refused) c.read-r.ensures) ∙ c.if-r-ne0.false in
-    long_enough c.args.file.now c.args.row.now _ _ well c.if-row-lt-PLACES.false c.ran.ensures
+returns c = long_enough c.args.file.now c.args.row.now c.ran.result c.ran.new.row (sym (ap (λ r. r.refused) c.in_ok-contents.ensures)) c.if-row-lt-PLACES.false c.ran.ensures

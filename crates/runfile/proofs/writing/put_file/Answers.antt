@@ -1,9 +1,11 @@
-use mathlib.Core.Path.{refl}
+use mathlib.Core.Path.{◌≡◌, ◌∙◌, refl}
+use mathlib.Core.List.{append_assoc}
 use Prim.Native.Nat.{◌+◌}
-use native.Mathlib.Nat.{zero-add}
+use native.Mathlib.Omega.{arith}
 use lib.ListN.{length}
+use Rattle.octets.proofs.Buffers.{text_first, text_put}
 use Rattle.runfile.specs.Layout.{records, trailer, trailer_bytes, file_of}
-use Rattle.octets.proofs.Buffers.{laid, next}
+use Rattle.runfile.specs.Writing.{file_length}
 use Rattle.runfile.proofs.Trailers.{length-trailer}
 use Rattle.runfile.proofs.writing.put_file.Goals as goal
 
@@ -14,6 +16,8 @@ returns c =
     let table = a.table.now in
     let turns = a.turns.now in
     let z = trailer a.x a.n (records table) (length turns) in
-    (next (zero-add (length table + length turns))
-    (next (zero-add (length table)) (laid table refl c.lay.ensures) (laid turns refl c.lay-2.ensures))
-    (laid (trailer_bytes z) (length-trailer z) c.put_trailer.ensures)).stands
+    let p1 = text_first a.out.now c.copy_from_slice.new.self table c.copy_from_slice.ensures.after in
+    let p2 = text_put p1 c.copy_from_slice-2.new.self (length turns) (omega arith) turns refl c.copy_from_slice-2.ensures.after in
+    let p3 = text_put p2 c.put_trailer.new.out 16 (omega arith) (trailer_bytes z) (length-trailer z) c.put_trailer.ensures in
+    let l : length table + length turns + 16 ≡ file_length table turns = omega arith in
+    p3.stands ∙ rw l (simp append_assoc)

@@ -1,18 +1,18 @@
-use mathlib.Core.Path.{refl}
-use Rattle.octets.specs.Bytes.{bytes}
-use Rattle.octets.proofs.Bytes.{length-bytes}
+use mathlib.Core.Path.{◌∙◌}
+use mathlib.Core.List.{append_assoc}
+use native.Mathlib.Omega.{arith}
+use Rattle.octets.proofs.Buffers.{nothing_put, number_put, all_put}
 use Rattle.runfile.specs.Layout.{trailer_bytes}
-use Rattle.octets.proofs.Buffers.{laid, next}
 use Rattle.runfile.proofs.writing.put_trailer.Goals as goal
 
 pub returns : goal.returns
 unfolding trailer_bytes
 returns c =
     let z = c.args.z in
-    (next refl (next refl (next refl (next refl (next refl
-    (laid (bytes 4 z.x) (length-bytes 4 z.x) c.put.ensures)
-    (laid (bytes 1 z.n) (length-bytes 1 z.n) c.put-2.ensures))
-    (laid (bytes 1 z.form) (length-bytes 1 z.form) c.put-3.ensures))
-    (laid (bytes 2 z.q) (length-bytes 2 z.q) c.put-4.ensures))
-    (laid (bytes 4 z.first) (length-bytes 4 z.first) c.put-5.ensures))
-    (laid (bytes 4 z.second) (length-bytes 4 z.second) c.put-6.ensures)).stands
+    let p1 = number_put (nothing_put c.args.out.now) c.store.new.out 4 (omega arith) z.x (rw c.from.ensures at c.store.ensures) in
+    let p2 = number_put p1 c.store-2.new.out 1 (omega arith) z.n (rw c.from-2.ensures at c.store-2.ensures) in
+    let p3 = number_put p2 c.store-3.new.out 1 (omega arith) z.form (rw c.from-3.ensures at c.store-3.ensures) in
+    let p4 = number_put p3 c.store-4.new.out 2 (omega arith) z.q (rw c.from-4.ensures at c.store-4.ensures) in
+    let p5 = number_put p4 c.store-5.new.out 4 (omega arith) z.first (rw c.from-5.ensures at c.store-5.ensures) in
+    let p6 = number_put p5 c.store-6.new.out 4 (omega arith) z.second (rw c.from-6.ensures at c.store-6.ensures) in
+    all_put p6 c.requires ∙ simp append_assoc

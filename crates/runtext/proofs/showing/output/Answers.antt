@@ -1,9 +1,7 @@
-use mathlib.Core.Path.{refl, ◌∙◌, ap}
-use Prim.Native.Nat.{min}
+use mathlib.Core.Path.{refl}
 use native.Mathlib.Omega.{arith}
-use borrow.Author.Rules.{rules}
 use Rattle.rules.proofs.Reasons.{above}
-use Rattle.script.proofs.Writes.{same_length}
+use Rattle.script.specs.Output.{refused_text, OutputTo}
 use Rattle.runtext.proofs.Outputs.{k_fits, text_there, line_there}
 use Rattle.runtext.proofs.showing.output.Goals as goal
 
@@ -16,8 +14,5 @@ overflow_cast-k c =
 
 pub returns-in-Err : goal.returns-in-Err
 returns-in-Err c =
-    let o = c.new-page.ensures in
-    let v = rw (o.stands, o.place, c.number.ensures, c.k.ensures) at c.refused.ensures.wrote in
-    let m = c.min.ensures ∙ ap (λ l. min c.refused.new.self.at l) (same_length v) in
-    let w = line_there c.args.file.now c.args.out.now _ _ c.in-Err.ensures (above c.in-Err.reason) v c.min.result m in
-    search rules
+    let line : OutputTo (refused_text c.number.result c.k.result) c.print.new.out c.told_refusal.result c.told_refusal.new.out = c.told_refusal.ensures in
+    line_there c.args.file.now c.args.out.now _ _ c.in-Err.ensures (above c.in-Err.reason) (rw (c.number.ensures, c.k.ensures) at line)

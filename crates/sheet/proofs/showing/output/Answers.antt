@@ -1,17 +1,17 @@
+use mathlib.Core.Path.{refl}
 use native.Mathlib.Omega.{arith}
+use Rattle.rules.proofs.Reasons.{above}
+use Rattle.script.specs.Output.{refused_text, OutputTo}
 use Rattle.sheet.proofs.Outputs.{k_fits, text_there, line_there}
 use Rattle.sheet.proofs.showing.output.Goals as goal
 
-pub returns-then-r-eq0 : goal.returns-then-r-eq0
-returns-then-r-eq0 c = text_there c.args.file.now c.args.out.now _ c.report-r.result c.report-r.ensures c.if-r-eq0.true
+pub returns-in-Ok : goal.returns-in-Ok
+returns-in-Ok c = text_there c.args.file.now c.args.out.now _ _ c.in-Ok.ensures refl
 
-pub overflow_cast-r : goal.overflow_cast-r
-overflow_cast-r c = record { fits = omega (arith, k_fits c.args.file.now c.args.out.now _ c.report-r.result c.report-r.ensures) }
+pub overflow_cast-k : goal.overflow_cast-k
+overflow_cast-k c = record { fits = omega (arith, k_fits c.args.file.now c.args.out.now _ _ c.in-Err.ensures, c.k.ensures) }
 
-pub returns-then-out-len : goal.returns-then-out-len
-returns-then-out-len c =
-    line_there c.args.file.now c.args.out.now _ c.report-r.result c.report-r.ensures c.if-r-eq0.false c.refused-len.ensures _ (omega arith)
-
-pub returns : goal.returns
-returns c =
-    line_there c.args.file.now c.args.out.now _ c.report-r.result c.report-r.ensures c.if-r-eq0.false c.refused-len.ensures _ (omega arith)
+pub returns-in-Err : goal.returns-in-Err
+returns-in-Err c =
+    let line : OutputTo (refused_text c.number.result c.k.result) c.report.new.out c.told_refusal.result c.told_refusal.new.out = c.told_refusal.ensures in
+    line_there c.args.file.now c.args.out.now _ _ c.in-Err.ensures (above c.in-Err.reason) (rw (c.number.ensures, c.k.ensures) at line)
