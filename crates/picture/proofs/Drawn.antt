@@ -1,6 +1,5 @@
 -- Words drawn one after the other into a buffer. Assumes nothing.
 use mathlib.Core.Path.{◌≡◌, refl, ◌∙◌, sym, ap}
-use mathlib.Core.Bool.{true}
 use mathlib.Core.List.{List, [], ◌∷◌, ◌++◌, append_assoc, append-nil}
 use Prim.Native.Nat.{ℕ, zero, suc, ◌+◌, ◌*◌, ◌≤◌}
 use native.Mathlib.Numerals.{add-one}
@@ -11,8 +10,6 @@ use Rattle.card.specs.declared.Halves.{Halves}
 use Rattle.card.specs.Register.{halves}
 use Rattle.card.specs.Word.{revision_a, word_of, claim_word}
 use Rattle.bench.specs.declared.Bench.{Bench}
-use Rattle.bench.specs.Sound.{sound}
-use Rattle.bench.proofs.Sounds.{facts}
 use Rattle.octets.specs.Bytes.{bytes}
 use Rattle.octets.proofs.Buffers
 use Rattle.octets.proofs.Buffers.{sets-append}
@@ -78,7 +75,3 @@ size-drawn w =
 -- where there is room, the words stand in front of the rest
 pub in_front : (w : Bench) (out : List ℕ) → picture_size w ≤ length out → sets out 0 (in_bytes (registers w)) ≡ in_bytes (registers w) ++ drop (picture_size w) out
 in_front w out h = Buffers.in_front out (in_bytes (registers w)) (picture_size w) (size-drawn w) h
-
--- a sound bench has 32 stations at most
-pub few : (w : Bench) → sound w ≡ true → w.n ≤ 32
-few w s = (facts w s).head.0.1.0
