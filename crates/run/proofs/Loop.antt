@@ -49,7 +49,7 @@ use Rattle.run.specs.Run.{Run, noted, step_run, run_from}
 use Rattle.run.specs.Drive.{Good, NotesOf}
 use Rattle.run.proofs.Written.{read}
 use Rattle.run.proofs.Books.{same_change}
-use Rattle.run.proofs.Steps.{same_offer, station_good, idle_turn, acting, ended_noted, going_noted}
+use Rattle.run.proofs.Steps.{same_offer, idle_turn, acting, ended_noted, going_noted}
 use Rattle.run.proofs.After.{notes_are, fits_after, notes_after, counts_after}
 
 abbrev pub state : Bench → ℕ → Book → Run
