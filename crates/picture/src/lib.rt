@@ -11,7 +11,7 @@ use bench::Bench;
 use card::Halves;
 use rules::Reason;
 
-#[tactic(auto, using(octets::proofs::Buffers::part_stored))]
+#[tactic(auto, using(crate::proofs::Drawn::part_stored))]
 fn put_word(out: &mut [u8], at: usize, x: u64)
     requires { at + 8 ≤ length out.old }
     ensures { out.new ≡ sets out.old at (bytes 8 x) }
