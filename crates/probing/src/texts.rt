@@ -3,7 +3,7 @@ ghost use Rattle.std.specs.Prelude.{◌≡◌, [], ◌∷◌, ◌<◌, get_or};
 ghost use Rattle.script.specs.Page.{Writes};
 ghost use Rattle.card.specs.Register.{halves};
 ghost use Rattle.method.specs.Record.{resting};
-ghost use Rattle.probing.specs.Numbers.{entry_numbers, station_numbers, head_numbers, rows};
+ghost use Rattle.probing.specs.Numbers.{entry_numbers, station_numbers, rows};
 ghost use Rattle.probing.specs.Text.{spaced, hex_digit, hexes, sound_text, refused_text, ended_text, answer_text, bench_text, drawn_text, picture_text, case_text, fault_text};
 
 use crate::numbers::{bench_of, call_from, cell};
@@ -75,9 +75,9 @@ fn hex_digit(d: u8) -> u8
     ensures { result ≡ hex_digit d }
 {
     if d < 10 {
-        return 48 + d;
+        return b'0' + d;
     }
-    87 + d
+    b'a' + (d - 10)
 }
 
 fn put_hexes(page: &mut Page, bytes: &[u8])
