@@ -79,7 +79,7 @@ fn main(rt: HostRuntime) {
         out: [0; 8192],
         probe: Probe {
             k: 1,
-            reading: Reading::default(),
+            reading: Reading::NONE,
         },
     };
     case.all(&rt, &mut rt.stdin(), &mut buf);

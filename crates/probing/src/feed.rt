@@ -1,7 +1,7 @@
 // The input byte by byte: words, numbers, whole cases.
 ghost use Rattle.std.specs.Prelude.{◌≡◌, ◌<◌, set};
 ghost use Rattle.script.specs.Page.{Writes};
-ghost use Rattle.probing.specs.Feed.{case_size, no_reading, probe, number_so_far, is_blank, goes_on, is_cut, step, stored, k_more, text_at, next_at, FedTo, ClosedTo};
+ghost use Rattle.probing.specs.Feed.{case_size, no_reading, probe, is_blank, goes_on, is_cut, step, stored, k_more, text_at, next_at, FedTo, ClosedTo};
 
 use crate::numbers::places_good;
 use crate::texts::{put_case, put_fault};
@@ -16,20 +16,11 @@ fn is_blank(b: u8) -> bool
     (b == b' ') | (b == b'\n')
 }
 
-impl Reading {
-    // The number that the word is so far, if it is one.
-    fn number(self) -> Option<u32>
-        ensures { result ≡ number_so_far self.word }
-    {
-        self.word.unwrap_or(Some(0))
-    }
-}
-
 // Whether there is more to read of the case; not so where it can't be read.
 pub fn goes_on(s: Reading) -> bool
     ensures { result ≡ goes_on s }
 {
-    (s.filled < CASE_SIZE) & s.number().is_some()
+    (s.filled < CASE_SIZE) & s.number.is_some()
 }
 
 fn is_cut(s: Reading) -> bool
@@ -56,18 +47,20 @@ fn step(row: &mut [u32], s: Reading, b: u8) -> Reading
 {
     if !is_blank(b) {
         return Reading {
-            word: Some(number_more(s.number(), b)),
+            word: true,
+            number: number_more(s.number, b),
             ..s
         };
     }
-    match s.word {
-        None => return s,
-        Some(Some(number)) => keep(row, s.filled, number),
-        Some(None) => {}
+    if !s.word {
+        return s;
+    }
+    if let Some(number) = s.number {
+        keep(row, s.filled, number);
     }
     Reading {
         filled: s.filled + 1,
-        word: None,
+        ..Reading::NONE
     }
 }
 
@@ -76,7 +69,7 @@ fn next_case(k: u32) -> Probe
 {
     Probe {
         k: k.saturating_add(1),
-        reading: Reading::default(),
+        reading: Reading::NONE,
     }
 }
 
@@ -86,7 +79,7 @@ fn took_up(page: &mut Page, row: &[u32], p: Probe) -> Probe
     ensures goes { result ≡ next_at p.k p.reading row.now }
     ensures written { Writes page.old page.new (text_at p.k p.reading row.now) }
 {
-    if p.reading.number().is_none() {
+    if p.reading.number.is_none() {
         put_fault(page, p.k, b": number expected\n");
         return p;
     }

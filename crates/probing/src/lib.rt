@@ -10,12 +10,23 @@ mod texts;
 
 pub use feed::{closed, fed, goes_on};
 
-// How far a case is read: how many of its numbers are whole, and the word so far, where one has begun: the number that it is,
-// or none where it has something else in it or is over 4,294,967,295.
-#[derive(Clone, Copy, PartialEq, Eq, Default)]
+// How far a case is read: how many of its numbers are whole, whether a word has begun, and the number that the word is so far:
+// none where it has something else in it or is over 4,294,967,295. The flag stays beside the number, since `FedTo` speaks of
+// a number without a word too.
+#[derive(Clone, Copy, PartialEq, Eq)]
 pub struct Reading {
     pub filled: usize,
-    pub word: Option<Option<u32>>,
+    pub word: bool,
+    pub number: Option<u32>,
+}
+
+impl Reading {
+    // Before the first byte of a case.
+    pub const NONE: Reading = Reading {
+        filled: 0,
+        word: false,
+        number: Some(0),
+    };
 }
 
 // The number of the case, from 1, and how far it is read. Past a case that can't be read it stays as it is.
