@@ -1,6 +1,6 @@
 -- Turns of any bench: their refusals, and that they keep it sound. Assumes nothing.
 use mathlib.Core.Path.{◌≡◌, refl}
-use mathlib.Core.Bool.{Bool, true, false, cond, not, ◌&&◌}
+use mathlib.Core.Bool.{true, false, ◌&&◌}
 use mathlib.Core.List.{List}
 use Prim.Native.Nat.{ℕ, ◌≤◌}
 use native.Mathlib.Omega.{arith}
@@ -16,28 +16,19 @@ use Rattle.reach.specs.Step.{count_limit, version_limit, would_begin, or_refused
 use Rattle.reach.proofs.Rest.{known}
 use Rattle.bench.specs.declared.Bench.{Bench}
 use Rattle.bench.specs.declared.Turned.{Turned}
-use Rattle.method.specs.declared.Answer.TheVariants.{Idle, Going, Ended, Refused}
-use Rattle.method.specs.Record.{told, call}
-use Rattle.method.specs.Table.{handed, begun, row, row_at}
-use Rattle.bench.specs.Record.{station_at, put_station, turned, on_bench}
+use Rattle.method.specs.declared.Answer.TheVariants.{Refused}
+use Rattle.method.specs.Record.{told}
+use Rattle.method.specs.Table.{row, row_at}
+use Rattle.bench.specs.Record.{station_at, turned, on_bench}
 use Rattle.bench.specs.Sound.{sound}
 use Rattle.bench.specs.Turn.{turn_refusals, turn_of}
+use Rattle.bench.proofs.AtRest.{row_at_rest}
 use Rattle.bench.specs.Promise.{Turn, turn_by, refusals_of, TurnRefusedExactly, RefusesExactly}
 
 -- a row refuses nothing
-none_refused : (none reads other same : Bool) (w x : Bench) (v y z : ℕ)
-    → eqb (told (cond none (turned Idle w) (cond reads (turned (Ended v 1) w) (cond other (turned (Ended y 1) w) (cond same (turned (Ended z 1) w) (turned Going x))))).answer).case 3 ≡ false
-none_refused true reads other same w x v y z = refl
-none_refused false true other same w x v y z = refl
-none_refused false false true same w x v y z = refl
-none_refused false false false true w x v y z = refl
-none_refused false false false false w x v y z = refl
-
 row_answers : (p : Place) (w : Bench) (i : ℕ) (t : Station) (kind a b : ℕ) → eqb (told (row on_bench p w i t kind a b).answer).case 3 ≡ false
 unfolding row
-row_answers Rest w i t kind a b =
-    none_refused (eqb kind 3) (eqb kind 0) (not (eqb w.v.second a)) (eqb a b) w (put_station i (begun (call kind a b) w.v.first t.c) w) w.v.second
-    (handed kind 0 w.v.second) (handed kind 1 w.v.second)
+row_answers Rest w i t kind a b = row_at_rest (λ x. eqb (told x.answer).case 3 ≡ false) w i t kind a b (λ e. refl) (λ e v. refl) (λ e f g. refl)
 row_answers At11 w i t kind a b = refl
 row_answers At12 w i t kind a b = refl
 row_answers At13 w i t kind a b = refl

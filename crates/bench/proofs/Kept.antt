@@ -1,7 +1,7 @@
 -- A turn of a sound bench hands back a sound bench. Assumes nothing.
-use mathlib.Core.Path.{◌≡◌, refl, subst⁻¹}
+use mathlib.Core.Path.{◌≡◌, subst⁻¹}
 use mathlib.Core.Logic.{◌⊎◌, inl, inr}
-use mathlib.Core.Bool.{Bool, true, false, cond, not, ◌&&◌, ◌||◌}
+use mathlib.Core.Bool.{Bool, true, false, cond, ◌&&◌}
 use mathlib.Core.List.{List}
 use Prim.Native.Nat.{ℕ, suc, ◌<◌, ◌≤◌, ◌+◌, ◌%◌}
 use native.Mathlib.Omega.{arith}
@@ -22,11 +22,11 @@ use Rattle.method.specs.declared.Station.{Station}
 use Rattle.reach.specs.Step.{version_limit, would_begin}
 use Rattle.reach.proofs.Rest.{set_or_swap}
 use Rattle.bench.specs.declared.Bench.{Bench}
-use Rattle.method.specs.declared.Answer.TheVariants.{Idle, Going, Ended}
 use Rattle.method.specs.Record.{call, resting}
-use Rattle.method.specs.Table.{handed, sees, goes, begun, grown, row2, row5, row11, row12, row13, row14, row15, row16, row18, row19, row20, row}
-use Rattle.bench.specs.Record.{station_at, a_at, r_at, put_station, put_p, turned, on_bench}
+use Rattle.method.specs.Table.{sees, goes, begun, grown, row11, row12, row13, row14, row15, row16, row18, row19, row20, row}
+use Rattle.bench.specs.Record.{station_at, a_at, r_at, put_station, put_p, on_bench}
 use Rattle.bench.specs.Sound.{head_rules, a_rules, r_rules}
+use Rattle.bench.proofs.AtRest.{row_at_rest}
 use Rattle.bench.proofs.Sounds.{Stands, StationKept, Sound}
 
 -- what holds of the new value and of every old one holds after the store, at each index
@@ -179,37 +179,27 @@ module _ (limit : ℕ) (w : Bench) (i : ℕ) (s : Sound limit w) (low : 1 ≤ i)
   row_20 : Stands limit w.n At20 t → Sound limit (row20 on_bench w i t).bench
   row_20 k = record { head = s.head; a = s.a; r = s.r; station = station_put (resting t.c) (to_rest limit w.n t At20 k) }
 
-  -- a station at rest that begins a set or swap, or ends it at once
-  row_5 : (kind a b : ℕ) → (kind ≡ 1) ⊎ (kind ≡ 2) → suc t.c ≤ limit → w.v.first ≤ version_limit → (other same : Bool) → eqb a b ≡ same
-      → Sound limit
-      (cond other (turned (Ended (handed kind 0 w.v.second) 1) w)
-      (cond same (turned (Ended (handed kind 1 w.v.second) 1) w) (turned Going (put_station i (begun (call kind a b) w.v.first t.c) w)))).bench
-  row_5 kind a b k c v true same e = s
-  row_5 kind a b k c v false true e = s
-  row_5 kind a b k c v false false e =
-      let d = eqb-false a b e in
-      let even = s.head.1.1.0.0 in
-      record { head = s.head; a = s.a; r = s.r; station = station_put (begun (call kind a b) w.v.first t.c) (search rules) }
-
-  row_rest_lem : (kind a b : ℕ) → kind ≤ 3 → Stands limit w.n Rest t → (none reads : Bool) → eqb kind 3 ≡ none → eqb kind 0 ≡ reads
-      → (not (reads || none) && eqb t.c limit) ≡ false → (not (reads || none) && ltb version_limit w.v.first) ≡ false
-      → Sound limit (cond none (turned Idle w) (cond reads (row2 on_bench w i) (row5 on_bench w i t kind a b))).bench
-  row_rest_lem kind a b h k true reads e3 e0 full late = s
-  row_rest_lem kind a b h k false true e3 e0 full late = s
-  row_rest_lem kind a b h k false false e3 e0 full late =
+  -- a station at rest that begins a set or swap
+  begins : (kind a b : ℕ) → kind ≤ 3 → Stands limit w.n Rest t → eqb kind 3 ≡ false → eqb kind 0 ≡ false → eqb a b ≡ false → eqb t.c limit ≡ false
+      → ltb version_limit w.v.first ≡ false → Sound limit (put_station i (begun (call kind a b) w.v.first t.c) w)
+  begins kind a b h k e3 e0 e full late =
       let n3 = eqb-false kind 3 e3 in
       let n0 = eqb-false kind 0 e0 in
+      let d = eqb-false a b e in
+      let set_swap : (kind ≡ 1) ⊎ (kind ≡ 2) = elim (ℕ_discrete kind 1) [ yes q ↦ inl q | no g ↦ inr (omega arith) ] in
       let room = eqb-false t.c limit full in
-      let c = k.count in
-      row_5 kind a b (elim (ℕ_discrete kind 1) [ yes e ↦ inl e | no g ↦ inr (omega arith) ]) (omega arith) (ltb-false version_limit w.v.first late)
-      (not (eqb w.v.second a)) (eqb a b) refl
+      let c : suc t.c ≤ limit = omega (arith, k.count) in
+      let v = ltb-false version_limit w.v.first late in
+      let even = s.head.1.1.0.0 in
+      record { head = s.head; a = s.a; r = s.r; station = station_put (begun (call kind a b) w.v.first t.c) (search rules) }
 
   pub row_sound : (p : Place) (kind a b : ℕ) → kind ≤ 3 → Stands limit w.n p t → (would_begin p kind && eqb t.c limit) ≡ false
       → (would_begin p kind && ltb version_limit w.v.first) ≡ false → Sound limit (row on_bench p w i t kind a b).bench
   unfolding row
   row_sound Rest kind a b h k full late =
-      let begins = set_or_swap kind h in
-      row_rest_lem kind a b h k (eqb kind 3) (eqb kind 0) refl refl (rw begins at full) (rw begins at late)
+      let q = set_or_swap kind h in
+      row_at_rest (λ x. Sound limit x.bench) w i t kind a b (λ e. s) (λ e v. s)
+      (λ e3 e0 e. begins kind a b h k e3 e0 e (rw (q, e3, e0) at full) (rw (q, e3, e0) at late))
   row_sound At11 kind a b h k full late = row_11 k
   row_sound At12 kind a b h k full late = row_12 k
   row_sound At13 kind a b h k full late = row_13 k

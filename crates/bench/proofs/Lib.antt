@@ -1,3 +1,4 @@
+pub mod AtRest
 pub mod Entries
 pub mod Sounds
 pub mod Bridge

@@ -1,7 +1,7 @@
 -- Own turns count the table's operations that a station did in its call, and there are 1, 8 or 10 of them. Assumes nothing.
 use mathlib.Core.Path.{◌≡◌, refl, ◌∙◌, sym, ap, subst}
 use mathlib.Core.Logic.{◌⊎◌, ◌↔◌, inl, inr, ⊎_elim}
-use mathlib.Core.Bool.{Bool, true, false, cond, not, ◌&&◌, ◌||◌, false≢true}
+use mathlib.Core.Bool.{true, cond, not, ◌&&◌, ◌||◌, false≢true}
 use mathlib.Core.List.{List, [], ◌∷◌}
 use Prim.Native.Nat.{ℕ, ◌<◌, ◌≤◌, ◌+◌}
 use native.Mathlib.Omega.{arith}
@@ -23,29 +23,21 @@ use Rattle.method.specs.declared.Answer.{Answer}
 use Rattle.method.specs.declared.Answer.TheVariants.{Idle, Going, Ended, Refused}
 use Rattle.method.specs.Record.{at_rest, told, call, resting}
 use Rattle.method.specs.Operation.{operates}
-use Rattle.method.specs.Table.{handed, sees, goes, begun, grown, row2, row}
+use Rattle.method.specs.Table.{sees, goes, begun, grown, row}
 use Rattle.bench.specs.Record.{station_at, put_station, turned, on_bench}
 use Rattle.bench.specs.Sound.{sound}
 use Rattle.bench.specs.Turn.{fresh_of, turn_of}
 use Rattle.bench.specs.Promise.{Turn, turn_by, refusals_of, after, operates_on, OperationTold, done, operations, FinishingTurns, OwnTurns, OwnTurnsCount, OwnTurnsFromFresh, OwnTurnsAreOperations}
+use Rattle.bench.proofs.AtRest.{row_at_rest}
 use Rattle.bench.proofs.Sounds.{Stands, facts}
 use Rattle.bench.proofs.Clear.{by_turn}
 use Rattle.bench.proofs.Promised.{turn_sound, kept_sound}
 
 -- whether a row does an operation
-begins_one : (none reads other same : Bool) (w x : Bench) (v y z : ℕ)
-    → operates (cond none (turned Idle w) (cond reads (turned (Ended v 1) w) (cond other (turned (Ended y 1) w) (cond same (turned (Ended z 1) w) (turned Going x))))).answer ≡ not none
-begins_one true reads other same w x v y z = refl
-begins_one false true other same w x v y z = refl
-begins_one false false true same w x v y z = refl
-begins_one false false false true w x v y z = refl
-begins_one false false false false w x v y z = refl
-
 row_operates : (p : Place) (w : Bench) (i : ℕ) (t : Station) (kind a b : ℕ) → operates (row on_bench p w i t kind a b).answer ≡ not (at_rest p && eqb kind 3)
 unfolding row
 row_operates Rest w i t kind a b =
-    begins_one (eqb kind 3) (eqb kind 0) (not (eqb w.v.second a)) (eqb a b) w (put_station i (begun (call kind a b) w.v.first t.c) w) w.v.second
-    (handed kind 0 w.v.second) (handed kind 1 w.v.second)
+    row_at_rest (λ x. operates x.answer ≡ not (eqb kind 3)) w i t kind a b (λ e. rw e refl) (λ e v. rw e refl) (λ e f g. rw e refl)
 row_operates At11 w i t kind a b = refl
 row_operates At12 w i t kind a b = refl
 row_operates At13 w i t kind a b = refl
@@ -154,21 +146,11 @@ module _ (limit : ℕ) (w : Bench) (u : Turn) (inside : u.station < length w.sta
         going = λ n. absurd (omega arith);
       }
 
-  begins : (none reads other same : Bool) (kind a b y z : ℕ) → t.own ≡ 0
-      → Counts w u
-      (cond none (turned Idle w)
-      (cond reads (row2 on_bench w u.station) (cond other (turned (Ended y 1) w) (cond same (turned (Ended z 1) w) (turned Going (put_station u.station (begun (call kind a b) w.v.first t.c) w))))))
-  begins true reads other same kind a b y z e = idles
-  begins false true other same kind a b y z e = at_once_lem w.v.second e
-  begins false false true same kind a b y z e = at_once_lem y e
-  begins false false false true kind a b y z e = at_once_lem z e
-  begins false false false false kind a b y z e = goes_on w (begun (call kind a b) w.v.first t.c) refl (omega arith) (omega arith)
-
   counts : (p : Place) → Stands limit w.n p t → Counts w u (row on_bench p w u.station t u.kind u.a u.b)
   unfolding row
   counts Rest k =
-      begins (eqb u.kind 3) (eqb u.kind 0) (not (eqb w.v.second u.a)) (eqb u.a u.b) u.kind u.a u.b (handed u.kind 0 w.v.second)
-      (handed u.kind 1 w.v.second) k.own
+      row_at_rest (Counts w u) w u.station t u.kind u.a u.b (λ e. idles) (λ e v. at_once_lem v k.own)
+      (λ e f g. goes_on w (begun (call u.kind u.a u.b) w.v.first t.c) refl (omega (arith, k.own)) (omega (arith, k.own)))
   counts At11 k = goes_on _ (grown t) refl refl (omega (arith, k.own))
   counts At12 k = goes_on _ (goes t At13) refl refl (omega (arith, k.own))
   counts At13 k = goes_on _ (goes t At14) refl refl (omega (arith, k.own))

@@ -97,6 +97,10 @@ holds w s =
     (and_both (all_kept_lem (r_rules count_limit w.n i (r_at w i)) (s.r i g))
     (all_kept_lem (rules_of count_limit w.n i (station_at w i)) (listed count_limit w.n i (station_at w i) (s.station i g))))))
 
+-- a sound bench has 32 stations at most
+pub few_stations_lem : (w : Bench) → sound w ≡ true → w.n ≤ 32
+few_stations_lem w s = (facts w s).head.0.1.0
+
 -- what a move needs of its station
 pub ready : (p : Place) (n : ℕ) (t : Station) → Stands count_limit n p t → Ready t
 ready Rest n t k = omega arith
@@ -130,4 +134,4 @@ module _ (w : Bench) (i : ℕ) (s : sound w ≡ true) (g : i < 33) where
   ready_at = ready (station_at w i).place w.n (station_at w i) ((facts w s).station i g).stands
 
   pub within_at : reaching (station_at w i).place i (station_at w i) < 33
-  within_at = within (station_at w i).place w.n i (station_at w i) (facts w s).head.0.1.0 g ((facts w s).station i g).stands
+  within_at = within (station_at w i).place w.n i (station_at w i) (few_stations_lem w s) g ((facts w s).station i g).stands

@@ -79,7 +79,7 @@ impl Bench {
     pub fn fresh(x: u32, n: u32) -> Made
         ensures { result ≡ fresh_of x n }
     {
-        if (n == 0) | (Self::STATIONS < n) {
+        if n == 0 || Self::STATIONS < n {
             return Made {
                 refused: Reason::Stations.number(),
                 bench: Self::blank(0, 0),

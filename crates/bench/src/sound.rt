@@ -13,7 +13,7 @@ use method::{Place, Station};
 fn given(condition: bool, asked: bool) -> bool
     ensures { result ≡ (not condition || asked) }
 {
-    !condition | asked
+    !condition || asked
 }
 
 fn zero(e: Halves) -> bool

@@ -10,12 +10,11 @@ use rules::Reason;
 
 impl SoundBench {
     // One turn, which changes the bench where it is. Refused, nothing changes.
-    #[tactic(auto, using(crate::proofs::InPlace::inside, crate::proofs::InPlace::reached), unfolding(crate::specs::Turn::turn_of))]
+    #[tactic(auto, using(crate::proofs::InPlace::in_place), unfolding(crate::specs::Turn::turn_of))]
     pub fn turn(&mut self, station: u32, offer: Call) -> Answer
         ensures { turned result self.new.bench ≡ turn_of self.old.bench station offer.kind offer.a offer.b }
     {
-        let n = self.bench.n;
-        if (station == 0) | (n < station) {
+        if station == 0 || self.bench.n < station {
             return Answer::Refused(Reason::Station.number());
         }
         let at = station as usize;

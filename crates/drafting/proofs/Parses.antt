@@ -3,8 +3,8 @@ use mathlib.Core.Path.{◌≡◌, refl, ◌∙◌, sym, ap, subst}
 use mathlib.Core.List.{List}
 use Prim.Native.Nat.{ℕ, ◌*◌, ◌≤◌}
 use native.Mathlib.Omega.{arith}
-use borrow.Author.Tests.{ltb-true, ltb-false, eq-eqb, ne_eqb}
-use lib.Dec.{ltb}
+use borrow.Author.Tests.{ltb-true, ltb-false, eq-eqb, ne_eqb, eqb-false}
+use lib.Dec.{eqb, ltb}
 use lib.ListN.{length, take, drop}
 use lib.Seq.{take_at}
 use Rattle.rules.proofs.Facts.{either_way}
@@ -115,3 +115,16 @@ module _ {text : List ℕ} {calls calls' moves moves' : Page} {d : Draft} (t : T
       let x : d.x ≡ (last_draft text).x = sym (ap (λ d. d.x) t.last) in
       let y : d.n ≡ (last_draft text).n = sym (ap (λ d. d.n) t.last) in
       rw (x, y, e ∙ front (table_in text) called table_fit, f ∙ front (turns_in text) turned turn_fit) at w
+
+-- a file that was written ends within the buffer
+pub ends_within : (text out after : List ℕ) (len : ℕ) → ParsedTo text out (parsed 0 0 len) after → len ≤ length out
+unfolding parse_of
+ends_within text out after len p =
+    let k = lacking (last_draft text) in
+    let e = ap (λ a. a.expected) p.answered in
+    let l = ap (λ a. a.len) p.answered in
+    either_way (eqb k 0)
+    (λ t.
+    either_way (ltb (length out) (length_in text)) (λ u. let z = rw (t, u) at e in absurd (omega arith))
+    (λ u. let z = rw (t, u) at l in let g = ltb-false (length out) (length_in text) u in omega arith))
+    (λ f. let z = rw f at e in absurd (eqb-false k 0 f (sym z)))

@@ -1,4 +1,5 @@
 -- The promises of texts as run files. Assumes nothing.
+use borrow.Author.Rules.{rules}
 use mathlib.Core.Path.{◌≡◌, refl, ◌∙◌, sym, ap, subst}
 use mathlib.Core.List.{List, ◌++◌}
 use Prim.Native.Nat.{ℕ, ◌*◌, ◌≤◌}
@@ -18,15 +19,22 @@ use Rattle.rules.specs.Reason.{Numbers}
 use Rattle.runtext.specs.Text.{file_text, print_of, printed_on, PrintedTo}
 use Rattle.runtext.proofs.Runs.{held}
 use Rattle.drafting.specs.Scan.{no_scan, run}
-use Rattle.drafting.specs.Parse.{last_draft, lacking, table_in, turns_in, Parsed, parsed, ParsedTo}
-use Rattle.drafting.specs.Promise.{TurnedBack, PrintedReadsBack, TextsTellGoodRuns, ParseSettled}
+use Rattle.drafting.specs.Parse.{last_draft, lacking, table_in, turns_in, Parsed, parsed, parsed_numbers, ParsedTo}
+use Rattle.drafting.specs.Promise.{TurnedBack, PrintedReadsBack, TextsTellGoodRuns, ParseSettled, NumbersTell}
 use Rattle.drafting.proofs.Sane.{tells_good}
 use Rattle.drafting.proofs.Parses.{refused, taken}
 use Rattle.drafting.proofs.Back.{Tells, tells}
 
+-- two lots of numbers with their buffers that the contract allows for one input are the same
+numbers_settled : (text out : List ℕ) (a b : Parsed) (c d : List ℕ) → ParsedTo text out a c → ParsedTo text out b d → (a ≡ b) × (c ≡ d)
+numbers_settled text out a b c d v w = (v.answered ∙ sym w.answered, v.left ∙ sym w.left)
+
+numbers_tell : NumbersTell
+numbers_tell = search rules
+
 pub answer_is_settled : ParseSettled
 unfolding ParseSettled
-answer_is_settled text out a b c d v w = (v.answered ∙ sym w.answered, v.left ∙ sym w.left)
+answer_is_settled text out r s c d v w = let e = numbers_settled text out (parsed_numbers r) (parsed_numbers s) c d v w in (numbers_tell.answers r s e.0, e.1)
 
 -- what the writer does with a run
 by_writer : (x n : ℕ) (table turns out : List ℕ) → Written x n table turns out (write_of n table turns (length out)) (out_of x n table turns out)
@@ -43,22 +51,20 @@ retold b e f g k = rw (← e, ← f, ← g, ← k) b
 
 module _ (text out after : List ℕ) (answer : Parsed) (p : ParsedTo text out answer after) where
   parsed_by : lacking (last_draft text) ≡ 0 → ByWriter text out answer after (last_draft text).x (last_draft text).n (table_in text) (turns_in text)
-  unfolding ParseSettled
   parsed_by h =
       let x = (last_draft text).x in
       let n = (last_draft text).n in
       let w = write_of n (table_in text) (turns_in text) (length out) in
       let o = out_of x n (table_in text) (turns_in text) out in
-      let e = answer_is_settled text out answer (parsed 0 w.refused w.len) after o p (taken text out h w o (by_writer x n (table_in text) (turns_in text) out)) in
+      let e = numbers_settled text out answer (parsed 0 w.refused w.len) after o p (taken text out h w o (by_writer x n (table_in text) (turns_in text) out)) in
       record { answered = e.0; left = e.1 }
 
   readable : answer.expected ≡ 0 → lacking (last_draft text) ≡ 0
-  unfolding ParseSettled
   readable z =
       let l = lacking (last_draft text) in
       either_way (eqb l 0) (eqb-true l 0)
       (λ f.
-      let e = answer_is_settled text out answer (parsed (run no_scan text).line l 0) after out p (refused text out (run no_scan text).line l refl refl (eqb-false l 0 f)) in
+      let e = numbers_settled text out answer (parsed (run no_scan text).line l 0) after out p (refused text out (run no_scan text).line l refl refl (eqb-false l 0 f)) in
       sym (ap (λ a. a.expected) e.0) ∙ z)
 
 pub texts_tell_good_runs : TextsTellGoodRuns

@@ -1,15 +1,13 @@
--- Good numbers make a good call, a table is a call longer, and the bytes of a number come one after the other. Assumes nothing.
-use mathlib.Core.Path.{◌≡◌, ◌∙◌, sym, ap}
+-- Good numbers make a good call, and a table is a call longer. Assumes nothing.
+use mathlib.Core.Path.{◌≡◌, ◌∙◌, ap}
 use mathlib.Core.Bool.{false}
-use mathlib.Core.List.{List, ◌∷◌, ◌++◌}
-use Prim.Native.Nat.{ℕ, suc, ◌+◌, ◌*◌, ◌-◌, ◌/◌, ◌%◌, ◌<◌, ◌≤◌}
+use mathlib.Core.List.{List, ◌++◌}
+use Prim.Native.Nat.{ℕ, ◌*◌, ◌<◌, ◌≤◌}
 use native.Mathlib.Omega.{arith}
-use native.Mathlib.Nat.{add-zero}
 use borrow.Author.Tests.{eqb-true, eq-eqb, ne_eqb, le-ltb}
 use lib.Dec.{eqb}
-use lib.ListN.{length, get_or, take, drop, length-drop}
-use lib.Seq.{take_all, take-append-le, drop_at, drop-append-le, drop-drop, get_or-drop}
-use Rattle.octets.specs.Bytes.{bytes}
+use lib.ListN.{length, take, drop, length-drop}
+use lib.Seq.{take_all, take-append-le, drop_at, drop-append-le}
 use Rattle.rules.specs.Limits.{station_limit}
 use Rattle.rules.proofs.Facts.{either_way}
 use Rattle.runfile.specs.declared.CallRecord.{CallRecord}
@@ -47,18 +45,3 @@ module _ (table call : List ℕ) (q : ℕ) (h : length table ≡ 12 * q) where
 
   pub call_last : length call ≡ 12 → call_bytes (table ++ call) q ≡ call
   call_last l = ap (take 12) (drop_at table call (12 * q) h) ∙ take_all 12 call (omega arith)
-
--- where the bytes of y are still to come, the next is y % 256, and those of y / 256 come after it
-pub record ByteMore (k x i y : ℕ) : Type 0 where
-  pub here : get_or (bytes k x) i 0 ≡ y % 256
-  pub rest : drop (i + 1) (bytes k x) ≡ bytes (k - (i + 1)) (y / 256)
-
-pub byte_more : (k x i y : ℕ) → i < k → drop i (bytes k x) ≡ bytes (k - i) y → ByteMore k x i y
-unfolding bytes
-byte_more k x i y h e =
-    let d : k - i ≡ suc (k - (i + 1)) = omega arith in
-    let f : drop i (bytes k x) ≡ y % 256 ∷ bytes (k - (i + 1)) (y / 256) = e ∙ ap (λ m. bytes m y) d in
-    record {
-      here = ap (λ m. get_or (bytes k x) m 0) (sym (add-zero i)) ∙ sym (get_or-drop i (bytes k x) 0 0) ∙ ap (λ l. get_or l 0 0) f;
-      rest = sym (drop-drop 1 i (bytes k x)) ∙ ap (drop 1) f;
-    }

@@ -33,7 +33,7 @@ fn put_record(page: &mut Page, c: CallRecord)
     little::<4>(page, c.b);
 }
 
-#[tactic(auto, unfolding(crate::specs::Draft::call_from))]
+#[tactic(auto, using(script::proofs::Pages::blank), unfolding(crate::specs::Draft::call_from))]
 fn put_call(page: &mut Page, q: usize, d: Draft)
     ensures { Writes page.old page.new (call_from q (drafted d)) }
 {
@@ -42,7 +42,7 @@ fn put_call(page: &mut Page, q: usize, d: Draft)
     }
 }
 
-#[tactic(auto, unfolding(crate::specs::Draft::turn_from))]
+#[tactic(auto, using(script::proofs::Pages::blank), unfolding(crate::specs::Draft::turn_from))]
 fn put_turn(page: &mut Page, t: usize, d: Draft)
     ensures { Writes page.old page.new (turn_from t (drafted d)) }
 {
@@ -92,6 +92,7 @@ fn at_end(text: &[u8], s: Scan) -> Result<Draft, Expected>
 }
 
 // What the text tells, with its calls and its turns on two pages.
+#[tactic(auto, using(crate::proofs::Fills::refused_last))]
 pub(crate) fn told(text: &[u8], calls: &mut Page, moves: &mut Page) -> Result<Draft, Complaint>
     ensures { ToldTo text.now calls.old calls.new moves.old moves.new result }
 {

@@ -65,8 +65,9 @@ pub struct Complaint {
 }
 
 // The word that comes next, or that the line has to end.
-#[derive(Clone, Copy)]
+#[derive(Clone, Copy, Default)]
 pub(crate) enum Stage {
+    #[default]
     Start,
     StartValue,
     AfterStart,
@@ -82,7 +83,7 @@ pub(crate) enum Stage {
 }
 
 // q and t count the calls and turns so far; call is the last of them, of which a turn has the station alone.
-#[derive(Clone, Copy)]
+#[derive(Clone, Copy, Default)]
 pub(crate) struct Draft {
     pub stage: Stage,
     pub x: u32,

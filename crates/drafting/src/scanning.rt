@@ -4,8 +4,7 @@ ghost use Rattle.drafting.specs.Held.{in_comment, scanned, Begun, Between, Draft
 ghost use Rattle.drafting.specs.Scan.{no_scan, word_ended, line_ended, is_blank, step};
 
 use crate::drafts::{ended, took};
-use crate::{Draft, Expected, Scan, Stage, Within};
-use runfile::CallRecord;
+use crate::{Draft, Expected, Scan, Within};
 
 // Before the first byte.
 pub(crate) fn fresh() -> Scan
@@ -14,14 +13,7 @@ pub(crate) fn fresh() -> Scan
     Scan {
         line: 1,
         within: Within::Blank,
-        draft: Draft {
-            stage: Stage::Start,
-            x: 0,
-            n: 0,
-            q: 0,
-            t: 0,
-            call: CallRecord::default(),
-        },
+        draft: Draft::default(),
     }
 }
 
@@ -84,6 +76,7 @@ fn in_word(s: Scan, i: usize) -> Scan
 }
 
 // A byte more: the one at place i.
+#[tactic(auto, using(crate::proofs::Steps::newline_refused, crate::proofs::Steps::in_a_comment, crate::proofs::Steps::by_mark, crate::proofs::Steps::by_blank, crate::proofs::Steps::by_letter))]
 pub(crate) fn step(text: &[u8], s: Scan, i: usize) -> Result<Scan, Expected>
     requires { (i < length text.now) × Begun i s.within }
     ensures { Scans text.now (i + 1) s.line result (step (scanned text.now i s) (get_or text.now i 0)) }

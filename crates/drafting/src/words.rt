@@ -14,7 +14,7 @@ pub(crate) fn is(word: &[u8], text: &[u8]) -> bool
     word == text
 }
 
-#[tactic(auto, unfolding(crate::specs::Draft::number_from))]
+#[tactic(auto, using(crate::proofs::Letters::number_on), unfolding(crate::specs::Draft::number_from))]
 fn number(word: &[u8]) -> Option<u32>
     ensures { result ≡ as_number (number_from 0 word.now) }
 {

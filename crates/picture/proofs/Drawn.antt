@@ -1,23 +1,35 @@
 -- Words drawn one after the other into a buffer. Assumes nothing.
 use mathlib.Core.Path.{◌≡◌, refl, ◌∙◌, sym, ap}
-use mathlib.Core.Bool.{true}
 use mathlib.Core.List.{List, [], ◌∷◌, ◌++◌, append_assoc, append-nil}
-use Prim.Native.Nat.{ℕ, zero, suc, ◌+◌, ◌*◌, ◌≤◌}
+use Prim.Native.Nat.{ℕ, zero, suc, ◌+◌, ◌-◌, ◌*◌, ◌≤◌}
 use native.Mathlib.Numerals.{add-one}
 use native.Mathlib.Omega.{arith}
-use lib.ListN.{get_or, length, drop, length-append}
-use lib.Seq.{sets}
+use borrow.Rule.Slice.PartMut.{mid_of, put_mid, mid_len}
+use lib.ListN.{get_or, length, take, drop, length-append}
+use lib.Seq.{sets, sets-eq, drop-drop}
 use Rattle.card.specs.declared.Halves.{Halves}
 use Rattle.card.specs.Register.{halves}
 use Rattle.card.specs.Word.{revision_a, word_of, claim_word}
 use Rattle.bench.specs.declared.Bench.{Bench}
-use Rattle.bench.specs.Sound.{sound}
-use Rattle.bench.proofs.Sounds.{facts}
 use Rattle.octets.specs.Bytes.{bytes}
 use Rattle.octets.proofs.Buffers
 use Rattle.octets.proofs.Buffers.{sets-append}
 use Rattle.octets.proofs.Bytes.{length-bytes}
 use Rattle.picture.specs.Picture.{entry_words, registers, in_bytes, picture_size}
+
+-- a part of the buffer that comes back as a text of k bytes
+put_back : (out text : List ℕ) (at k : ℕ) → length text ≡ k → at + k ≤ length out → take at out ++ (text ++ drop k (drop at out)) ≡ sets out at text
+put_back out text at k e h =
+    rw (drop-drop, ← e)
+    (sym (append_assoc (take at out) text (drop (at + length text) out)) ∙ sym (sets-eq text out at (omega arith)))
+
+-- the k bytes of x, stored into such a part
+pub part_stored : (out back : List ℕ) (at k x : ℕ) → at + k ≤ length out → back ≡ bytes (length (mid_of at (at + k - at) out)) x
+    → put_mid at (at + k - at) out back ≡ sets out at (bytes k x)
+part_stored out back at k x h e =
+    let d : at + k - at ≡ k = omega arith in
+    let q : back ≡ bytes k x = e ∙ ap (λ m. bytes m x) (mid_len at (at + k) out h ∙ d) in
+    rw (d, q) (put_back out (bytes k x) at k (length-bytes k x) h)
 
 pub length-in_bytes : (xs : List ℕ) → length (in_bytes xs) ≡ 8 * length xs
 unfolding in_bytes
@@ -78,7 +90,3 @@ size-drawn w =
 -- where there is room, the words stand in front of the rest
 pub in_front : (w : Bench) (out : List ℕ) → picture_size w ≤ length out → sets out 0 (in_bytes (registers w)) ≡ in_bytes (registers w) ++ drop (picture_size w) out
 in_front w out h = Buffers.in_front out (in_bytes (registers w)) (picture_size w) (size-drawn w) h
-
--- a sound bench has 32 stations at most
-pub few : (w : Bench) → sound w ≡ true → w.n ≤ 32
-few w s = (facts w s).head.0.1.0

@@ -11,7 +11,7 @@ use bench::Bench;
 use card::Halves;
 use rules::Reason;
 
-#[tactic(auto, using(octets::proofs::Buffers::part_stored))]
+#[tactic(auto, using(crate::proofs::Drawn::part_stored))]
 fn put_word(out: &mut [u8], at: usize, x: u64)
     requires { at + 8 ≤ length out.old }
     ensures { out.new ≡ sets out.old at (bytes 8 x) }
@@ -43,7 +43,7 @@ fn put_registers(out: &mut [u8], bench: Bench)
 }
 
 // Draws V, P, A[1..n] and R[1..n], and hands back how many bytes. Refused, no byte changes.
-#[tactic(auto, using(crate::proofs::Drawn::few, crate::proofs::Drawn::in_front), unfolding(crate::specs::Picture::drawing_of, crate::specs::Picture::drawn_on))]
+#[tactic(auto, using(bench::proofs::Sounds::few_stations_lem, crate::proofs::Drawn::in_front), unfolding(crate::specs::Picture::drawing_of, crate::specs::Picture::drawn_on))]
 pub fn picture(bench: Bench, out: &mut [u8]) -> Result<usize, Reason>
     ensures { DrawnTo bench out.old (numbers result) out.new }
 {

@@ -5,118 +5,82 @@
 use probing::{Probe, Reading};
 use std::io::Read;
 
-// How far the input is read, and whether there is more to do.
-#[derive(Clone, Copy)]
-struct Stand {
-    probe: Probe,
-    on: bool,
-}
-
 fn complain(rt: &impl Eprint, line: &str) {
     let _ = rt.eprintln(line);
 }
 
 // Writes the text at the front of the buffer; a text that the buffer had no room for is not cut down.
 fn written(rt: &(impl Print + Eprint), out: &[u8], len: usize) -> bool {
-    let mut done = false;
-    if len <= out.len() {
-        done = rt.write_all(&out[0..len]).is_ok();
-    }
+    let done = out
+        .get(..len)
+        .is_some_and(|text| rt.write_all(text).is_ok());
     if !done {
         complain(rt, "probe: writing failed");
     }
     done
 }
 
-// A byte more.
-fn one(rt: &(impl Print + Eprint), b: u8, row: &mut [u32], out: &mut [u8], p: Probe) -> Stand {
-    let f = probing::fed(row, out, p, b);
-    let probe = f.probe;
-    let s = probe.reading;
-    let on = written(rt, out, f.len) & probing::goes_on(s);
-    Stand { probe, on }
+// The numbers of the case, the text that is written for it, and how far the input is read.
+#[derive(Drop)]
+struct Case {
+    row: [u32; 538],
+    out: [u8; 8192],
+    probe: Probe,
 }
 
-// The bytes of a piece of the input, as long as there is more to do.
-fn piece(
-    rt: &(impl Print + Eprint),
-    bytes: &[u8],
-    row: &mut [u32],
-    out: &mut [u8],
-    p: Probe,
-) -> Stand {
-    let mut stand = Stand { probe: p, on: true };
-    let mut i = 0;
-    while i < bytes.len() {
-        if !stand.on {
-            return stand;
-        }
-        let q = stand.probe;
-        stand = one(rt, bytes[i], row, out, q);
-        i = i + 1;
+impl Case {
+    // A byte more, and whether there is more to do.
+    fn byte(&mut self, rt: &(impl Print + Eprint), b: u8) -> bool {
+        let f = probing::fed(&mut self.row, &mut self.out, self.probe, b);
+        self.probe = f.probe;
+        written(rt, &self.out, f.len) & probing::goes_on(f.probe.reading)
     }
-    stand
-}
 
-// Reads once, and feeds what came.
-fn some(
-    rt: &(impl Print + Eprint),
-    from: &mut impl Read,
-    buf: &mut [u8],
-    row: &mut [u32],
-    out: &mut [u8],
-    p: Probe,
-) -> Stand {
-    let n = match from.read(buf) {
-        Ok(n) => n,
-        Err(_) => {
-            complain(rt, "probe: reading failed");
-            return Stand {
-                probe: p,
-                on: false,
-            };
+    // The bytes of a piece of the input, as long as there is more to do.
+    fn piece(&mut self, rt: &(impl Print + Eprint), bytes: &[u8]) -> bool {
+        for b in bytes {
+            if !self.byte(rt, *b) {
+                return false;
+            }
         }
-    };
-    if n == 0 {
-        let len = probing::closed(row, out, p);
-        written(rt, out, len);
-        return Stand {
-            probe: p,
-            on: false,
-        };
+        true
     }
-    piece(rt, &buf[..n], row, out, p)
-}
 
-// A proved loop has to end, and nothing says that the input does. So the loop counts down, from a number that no run uses up.
-fn all(
-    rt: &(impl Print + Eprint),
-    from: &mut impl Read,
-    buf: &mut [u8],
-    row: &mut [u32],
-    out: &mut [u8],
-) {
-    let reading = Reading {
-        filled: 0,
-        word: false,
-        number: 0,
-    };
-    let probe = Probe { k: 1, reading };
-    let mut stand = Stand { probe, on: true };
-    let mut left = u64::MAX;
-    while 0 < left {
-        if !stand.on {
-            return;
+    // The end of the input.
+    fn end(&mut self, rt: &(impl Print + Eprint)) {
+        let len = probing::closed(&mut self.row, &mut self.out, self.probe);
+        written(rt, &self.out, len);
+    }
+
+    // Reads once, and feeds what came.
+    fn some(&mut self, rt: &(impl Print + Eprint), from: &mut impl Read, buf: &mut [u8]) -> bool {
+        match from.read(buf) {
+            Ok(0) => self.end(rt),
+            Ok(n) => return self.piece(rt, &buf[..n]),
+            Err(_) => complain(rt, "probe: reading failed"),
         }
-        let p = stand.probe;
-        stand = some(rt, from, buf, row, out, p);
-        left = left - 1;
+        false
+    }
+
+    // A proved loop has to end, and nothing says that the input does. So the loop has a number of turns that no run uses up.
+    fn all(&mut self, rt: &(impl Print + Eprint), from: &mut impl Read, buf: &mut [u8]) {
+        for _ in 0..u64::MAX {
+            if !self.some(rt, from, buf) {
+                return;
+            }
+        }
     }
 }
 
 fn main(rt: HostRuntime) {
     let mut buf = [0u8; 65536];
-    let mut row = [0u32; 538];
-    let mut out = [0u8; 8192];
-    all(&rt, &mut rt.stdin(), &mut buf, &mut row, &mut out);
+    let mut case = Case {
+        row: [0; 538],
+        out: [0; 8192],
+        probe: Probe {
+            k: 1,
+            reading: Reading::default(),
+        },
+    };
+    case.all(&rt, &mut rt.stdin(), &mut buf);
 }

@@ -1,3 +1,4 @@
+pub mod Places
 pub mod Filled
 pub mod Spaced
 pub mod Cases

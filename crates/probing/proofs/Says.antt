@@ -1,33 +1,20 @@
 -- The numbers of a bench say that bench: each field comes back from its place. Assumes nothing.
-use mathlib.Core.Path.{◌≡◌, refl, ◌∙◌, sym, ap}
+use mathlib.Core.Path.{◌≡◌, refl, ◌∙◌, ap}
 use mathlib.Core.Logic.{⊎_elim}
-use mathlib.Core.List.{List, [], ◌∷◌, ◌++◌}
-use Prim.Native.Nat.{ℕ, zero, suc, ◌+◌, ◌*◌, ◌<◌, ◌≤◌}
+use mathlib.Core.List.{List, ◌++◌}
+use Prim.Native.Nat.{ℕ, zero, suc, ◌+◌, ◌*◌, ◌<◌}
 use native.Mathlib.Omega.{arith}
 use native.Mathlib.Nat.{le_of_suc-le-suc, eq-or-lt_of_le, mul-zero, mul-suc, mul-le-mul_left}
-use lib.ListN.{length, get_or, take, length-append, get_or-append}
-use lib.Seq.{get_or-append-add, take-suc, take_all}
+use lib.ListN.{length, get_or, length-append, get_or-append}
+use lib.Seq.{get_or-append-add}
 use Rattle.card.specs.Register.{halves}
-use Rattle.method.specs.declared.Place.{Place}
-use Rattle.method.specs.declared.Place.TheVariants.{Rest, At11, At12, At13, At14, At15, At16, At18, At19, At20}
-use Rattle.method.specs.Record.{num, resting}
+use Rattle.method.specs.Record.{resting}
 use Rattle.bench.specs.declared.Bench.{Bench}
 use Rattle.bench.specs.Record.{a_at, r_at, station_at}
-use Rattle.probing.specs.Numbers.{place_of, halves_from, station_from, each, place_at, bench_of, entry_numbers, station_numbers, rows, head_numbers, numbers_of}
+use Rattle.probing.specs.Numbers.{place_of, halves_from, station_from, place_at, bench_of, entry_numbers, station_numbers, rows, head_numbers, numbers_of}
+use Rattle.probing.proofs.Places.{place_back}
+use Rattle.probing.proofs.Filled.{each_is}
 use Rattle.probing.specs.Promise.{NumbersSayBenches}
-
-place_back : (p : Place) → place_of (num p) ≡ p
-unfolding place_of
-place_back Rest = refl
-place_back At11 = refl
-place_back At12 = refl
-place_back At13 = refl
-place_back At14 = refl
-place_back At15 = refl
-place_back At16 = refl
-place_back At18 = refl
-place_back At19 = refl
-place_back At20 = refl
 
 -- rows of one width
 module _ (row : ℕ → List ℕ) (m : ℕ) (wide : (i : ℕ) → length (row i) ≡ m) where
@@ -48,17 +35,6 @@ module _ (row : ℕ → List ℕ) (m : ℕ) (wide : (i : ℕ) → length (row i)
       let f = mul-le-mul_left m q in
       get_or-append (rows row k) (row k) 0 (m * i + j) (omega arith) ∙ rows_at k i j q g)
       (eq-or-lt_of_le (le_of_suc-le-suc h))
-
--- a list, element by element
-each_take : {X : Type 0} (f : ℕ → X) (l : List X) (d : X) (k : ℕ) → k ≤ length l → ((i : ℕ) → i < k → f i ≡ get_or l i d) → each f k ≡ take k l
-unfolding each
-each_take f [] d zero h g = refl
-each_take f (x ∷ l) d zero h g = refl
-each_take f l d (suc k) h g =
-    rw (each_take f l d k (omega arith) (λ i q. g i (omega arith)), g k (omega arith)) (sym (take-suc l k d h))
-
-each_is : {X : Type 0} (f : ℕ → X) (l : List X) (d : X) (k : ℕ) → length l ≡ k → ((i : ℕ) → i < k → f i ≡ get_or l i d) → each f k ≡ l
-each_is f l d k e g = each_take f l d k (omega arith) g ∙ take_all k l (omega arith)
 
 module _ (w : Bench) where
   abbrev E : List ℕ

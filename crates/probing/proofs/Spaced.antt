@@ -5,10 +5,11 @@ use Prim.Native.Nat.{ℕ, ◌+◌, ◌<◌}
 use native.Mathlib.Numerals.{add-one}
 use lib.ListN.{length, get_or, take}
 use lib.Seq.{take-suc}
+use Rattle.script.specs.declared.Page.{Page}
 use Rattle.script.specs.Quote.{quote}
 use Rattle.script.specs.Decimal.{decimal}
-use Rattle.script.specs.Wrote.{Wrote}
-use Rattle.script.proofs.Writes.{and_then}
+use Rattle.script.specs.Page.{Writes}
+use Rattle.script.proofs.Pages.{then}
 use Rattle.probing.specs.Numbers.{rows}
 use Rattle.probing.specs.Text.{spaced, hexes}
 
@@ -18,7 +19,7 @@ spaced-append [] ys = refl
 spaced-append (x ∷ xs) ys =
     ap (λ l. quote " " ++ decimal x ++ l) (spaced-append xs ys) ∙ sym (append_assoc (quote " " ++ decimal x) (spaced xs) (spaced ys))
 
-pub one_spaced : (x : ℕ) → spaced (x ∷ []) ≡ quote " " ++ decimal x
+one_spaced : (x : ℕ) → spaced (x ∷ []) ≡ quote " " ++ decimal x
 unfolding spaced
 one_spaced x = append-nil (quote " " ++ decimal x)
 
@@ -27,17 +28,22 @@ unfolding hexes
 hexes-append [] ys = refl
 hexes-append (x ∷ xs) ys = ap (λ l. hexes (x ∷ []) ++ l) (hexes-append xs ys)
 
-module _ {a b c : List ℕ} {i j k : ℕ} where
+module _ {p q r : Page} where
   -- numbers, and then more
-  pub then_numbers : (xs ys : List ℕ) → Wrote a b i j (spaced xs) → Wrote b c j k (spaced ys) → Wrote a c i k (spaced (xs ++ ys))
-  then_numbers xs ys v w = rw (spaced-append xs ys) (and_then v w)
+  pub then_numbers : (xs ys : List ℕ) → Writes p q (spaced xs) → Writes q r (spaced ys) → Writes p r (spaced (xs ++ ys))
+  then_numbers xs ys v w = rw (spaced-append xs ys) (then v w)
+
+  -- a number more
+  pub number_more : (xs : List ℕ) (m : ℕ) → m < length xs → Writes p q (spaced (take m xs)) → Writes q r (quote " " ++ decimal (get_or xs m 0))
+      → Writes p r (spaced (take (m + 1) xs))
+  number_more xs m h v w = rw (add-one, take-suc xs m 0 h) (then_numbers (take m xs) (get_or xs m 0 ∷ []) v (rw one_spaced w))
 
   -- a row more
-  pub row_more : (row : ℕ → List ℕ) (m : ℕ) → Wrote a b i j (spaced (rows row m)) → Wrote b c j k (spaced (row m)) → Wrote a c i k (spaced (rows row (m + 1)))
+  pub row_more : (row : ℕ → List ℕ) (m : ℕ) → Writes p q (spaced (rows row m)) → Writes q r (spaced (row m)) → Writes p r (spaced (rows row (m + 1)))
   unfolding rows
   row_more row m v w = rw add-one (then_numbers (rows row m) (row m) v w)
 
   -- a byte more
-  pub byte_more : (bs : List ℕ) (m : ℕ) → m < length bs → Wrote a b i j (hexes (take m bs)) → Wrote b c j k (hexes (get_or bs m 0 ∷ []))
-      → Wrote a c i k (hexes (take (m + 1) bs))
-  byte_more bs m h v w = rw (add-one, take-suc bs m 0 h, hexes-append (take m bs) (get_or bs m 0 ∷ [])) (and_then v w)
+  pub byte_more : (bs : List ℕ) (m : ℕ) → m < length bs → Writes p q (hexes (take m bs)) → Writes q r (hexes (get_or bs m 0 ∷ []))
+      → Writes p r (hexes (take (m + 1) bs))
+  byte_more bs m h v w = rw (add-one, take-suc bs m 0 h, hexes-append (take m bs) (get_or bs m 0 ∷ [])) (then v w)

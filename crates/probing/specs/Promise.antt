@@ -1,12 +1,13 @@
 -- What is promised of benches in numbers, that no field is lost or exchanged; of the input, that good cases are answered in order; and of feeding, that
 -- its contracts settle all. Assumes nothing.
 use Rattle.std.specs.Prelude.{◌≡◌, true, List, [], ◌∷◌, ◌++◌, ℕ, ◌<◌, length, get_or}
+use Rattle.script.specs.Number.{no_number}
 use Rattle.bench.specs.declared.Bench.{Bench}
 use Rattle.probing.specs.declared.Probe.{Probe}
 use Rattle.probing.specs.declared.Said.{Said}
 use Rattle.probing.specs.Numbers.{bench_of, numbers_of, places_to}
 use Rattle.probing.specs.Text.{newline, in_line, case_text}
-use Rattle.probing.specs.Feed.{case_size, no_reading, probe, no_number, k_more, output_from, output_of, FedTo, ClosedTo}
+use Rattle.probing.specs.Feed.{case_size, no_reading, probe, k_more, output_from, output_of, FedTo, ClosedTo}
 
 -- the numbers of a bench say that bench. Its arrays have 33 entries, as every bench's have
 unfoldable pub NumbersSayBenches : Type 0

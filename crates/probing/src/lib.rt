@@ -10,13 +10,12 @@ mod texts;
 
 pub use feed::{closed, fed, goes_on};
 
-// How far a case is read: how many of its numbers are whole, whether a word has begun, and the number that the word is so far.
-// A number of 4,294,967,296 or more is none.
-#[derive(Clone, Copy)]
+// How far a case is read: how many of its numbers are whole, and the word so far, where one has begun: the number that it is,
+// or none where it has something else in it or is over 4,294,967,295.
+#[derive(Clone, Copy, PartialEq, Eq, Default)]
 pub struct Reading {
     pub filled: usize,
-    pub word: bool,
-    pub number: u64,
+    pub word: Option<Option<u32>>,
 }
 
 // The number of the case, from 1, and how far it is read. Past a case that can't be read it stays as it is.
@@ -34,16 +33,19 @@ pub struct Said {
 }
 
 // The numbers of a bench say that bench.
+#[tactic(auto, using(crate::proofs::Says::numbers_say_benches))]
 pub fn numbers_say_benches()
     ensures { NumbersSayBenches }
 {}
 
 // A case that is written out is read as it was written, wherever it stands.
+#[tactic(auto, using(crate::proofs::Whole::cases_are_read))]
 pub fn cases_are_read()
     ensures { CasesAreRead }
 {}
 
 // The contracts of feeding allow one answer, one row and one buffer for each input.
+#[tactic(auto, using(crate::proofs::Goes::feeding_is_settled))]
 pub fn feeding_is_settled()
     ensures { FeedingSettled }
 {}

@@ -5,40 +5,28 @@ ghost use Rattle.probing.specs.Numbers.{place_of, is_place, halves_from, claim_f
 use bench::Bench;
 use card::{Claim, Halves};
 use method::{Call, Place, Station};
+use std::array;
 
 // A number of the row, 0 past its end.
 pub(crate) fn cell(row: &[u32], i: usize) -> u32
     ensures { result ≡ get_or row.now i 0 }
 {
-    if i < row.len() {
-        return row[i];
-    }
-    0
+    row.get(i).copied().unwrap_or(0)
 }
 
-#[tactic(auto, unfolding(crate::specs::Numbers::place_of))]
+// The place of that number; at rest where it is no place's.
+#[tactic(auto, using(crate::proofs::Places::named))]
 fn place_of(x: u32) -> Place
     ensures { result ≡ place_of x }
 {
-    match x {
-        11 => Place::At11,
-        12 => Place::At12,
-        13 => Place::At13,
-        14 => Place::At14,
-        15 => Place::At15,
-        16 => Place::At16,
-        18 => Place::At18,
-        19 => Place::At19,
-        20 => Place::At20,
-        _ => Place::Rest,
-    }
+    Place::try_from(x).unwrap_or(Place::Rest)
 }
 
+#[tactic(auto, using(crate::proofs::Places::names_one))]
 fn is_place(x: u32) -> bool
     ensures { result ≡ is_place x }
 {
-    let place = place_of(x);
-    x == place.number()
+    Place::try_from(x).is_ok()
 }
 
 fn halves_from(row: &[u32], at: usize) -> Halves
@@ -62,7 +50,7 @@ fn claim_from(row: &[u32], at: usize) -> Claim
     }
 }
 
-fn call_from(row: &[u32], at: usize) -> Call
+pub(crate) fn call_from(row: &[u32], at: usize) -> Call
     requires { at ≤ 1000 }
     ensures { result ≡ call_from row.now at }
 {
@@ -77,18 +65,14 @@ fn station_from(row: &[u32], at: usize) -> Station
     requires { at ≤ 900 }
     ensures { result ≡ station_from row.now at }
 {
-    let place = place_of(cell(row, at));
-    let call = call_from(row, at + 1);
-    let saw = claim_from(row, at + 7);
-    let entry = halves_from(row, at + 10);
     Station {
-        place,
-        call,
+        place: place_of(cell(row, at)),
+        call: call_from(row, at + 1),
         s: cell(row, at + 4),
         own: cell(row, at + 5),
         c: cell(row, at + 6),
-        saw,
-        entry,
+        saw: claim_from(row, at + 7),
+        entry: halves_from(row, at + 10),
     }
 }
 
@@ -96,49 +80,26 @@ fn entries_from(row: &[u32], from: usize) -> [Halves; 33]
     requires { from ≤ 8 }
     ensures { result ≡ entries_from row.now from 33 }
 {
-    let zero = Halves {
-        first: 0,
-        second: 0,
-    };
-    let mut all = [zero; 33];
-    let mut i: usize = 0;
-    while i < 33 {
-        let e = halves_from(row, from + 4 * i);
-        all[i] = e;
-        i = i + 1;
-    }
-    all
+    array::from_fn(|i| halves_from(row, from + 4 * i))
 }
 
 fn stations_from(row: &[u32]) -> [Station; 33]
     ensures { result ≡ stations_from row.now 33 }
 {
-    let first = station_from(row, 138);
-    let mut all = [first; 33];
-    let mut i: usize = 1;
-    while i < 33 {
-        let t = station_from(row, 138 + 12 * i);
-        all[i] = t;
-        i = i + 1;
-    }
-    all
+    array::from_fn(|i| station_from(row, 138 + 12 * i))
 }
 
+#[tactic(auto, unfolding(crate::specs::Numbers::bench_of))]
 pub(crate) fn bench_of(row: &[u32]) -> Bench
     ensures { result ≡ bench_of row.now }
 {
-    let v = halves_from(row, 1);
-    let p = claim_from(row, 3);
-    let a = entries_from(row, 6);
-    let r = entries_from(row, 8);
-    let stations = stations_from(row);
     Bench {
         n: cell(row, 0),
-        v,
-        p,
-        a,
-        r,
-        stations,
+        v: halves_from(row, 1),
+        p: claim_from(row, 3),
+        a: entries_from(row, 6),
+        r: entries_from(row, 8),
+        stations: stations_from(row),
     }
 }
 
@@ -146,13 +107,5 @@ pub(crate) fn bench_of(row: &[u32]) -> Bench
 pub(crate) fn places_good(row: &[u32]) -> bool
     ensures { result ≡ places_to row.now 33 }
 {
-    let mut i: usize = 0;
-    while i < 33 {
-        let x = cell(row, 138 + 12 * i);
-        if !is_place(x) {
-            return false;
-        }
-        i = i + 1;
-    }
-    true
+    (0..33).all(|i| is_place(cell(row, 138 + 12 * i)))
 }

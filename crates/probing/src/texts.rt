@@ -1,98 +1,73 @@
-// The text of a case, docs/PROBE.md, written to a lent buffer as far as it goes.
-ghost use Rattle.std.specs.Prelude.{◌≡◌, [], ◌∷◌, ◌<◌, get_or, length};
-ghost use Rattle.script.specs.Wrote.{Wrote};
+// The text of a case, docs/PROBE.md, written to a page.
+ghost use Rattle.std.specs.Prelude.{◌≡◌, [], ◌∷◌, ◌<◌, get_or};
+ghost use Rattle.script.specs.Page.{Writes};
 ghost use Rattle.card.specs.Register.{halves};
 ghost use Rattle.method.specs.Record.{resting};
-ghost use Rattle.probing.specs.Numbers.{halves_numbers, entry_numbers, station_numbers, rows};
-ghost use Rattle.probing.specs.Text.{spaced, hex_digit, hexes, sound_text, refused_text, ended_text, answer_text, bench_text, room, drawn_text, picture_text, case_text, fault_text};
+ghost use Rattle.probing.specs.Numbers.{entry_numbers, station_numbers, rows};
+ghost use Rattle.probing.specs.Text.{spaced, hex_digit, hexes, sound_text, refused_text, ended_text, answer_text, bench_text, drawn_text, picture_text, case_text, fault_text};
 
-use crate::numbers::{bench_of, cell};
+use crate::numbers::{bench_of, call_from, cell};
 use bench::Bench;
 use card::Halves;
 use method::{Answer, Station};
-use script::{decimal, put, word};
+use script::Page;
 
-// A space and a number.
-fn put_number(out: &mut [u8], at: usize, x: u32) -> usize
-    ensures { Wrote out.old out.new at result (spaced (x ∷ [])) }
+// A space before each number.
+fn put_numbers(page: &mut Page, numbers: &[u32])
+    ensures { Writes page.old page.new (spaced numbers.now) }
 {
-    let o = put(out, at, b' ');
-    decimal(out, o, x)
-}
-
-fn put_halves(out: &mut [u8], at: usize, e: Halves) -> usize
-    ensures { Wrote out.old out.new at result (spaced (halves_numbers e)) }
-{
-    let o = put_number(out, at, e.first);
-    put_number(out, o, e.second)
-}
-
-fn put_three(out: &mut [u8], at: usize, x: u32, y: u32, z: u32) -> usize
-    ensures { Wrote out.old out.new at result (spaced (x ∷ y ∷ z ∷ [])) }
-{
-    let o1 = put_number(out, at, x);
-    let o2 = put_number(out, o1, y);
-    put_number(out, o2, z)
-}
-
-fn put_station(out: &mut [u8], at: usize, t: Station) -> usize
-    ensures { Wrote out.old out.new at result (spaced (station_numbers t)) }
-{
-    let place = t.place;
-    let call = t.call;
-    let saw = t.saw;
-    let entry = t.entry;
-    let o1 = put_number(out, at, place.number());
-    let o2 = put_three(out, o1, call.kind, call.a, call.b);
-    let o3 = put_number(out, o2, t.s);
-    let o4 = put_number(out, o3, t.own);
-    let o5 = put_number(out, o4, t.c);
-    let o6 = put_three(out, o5, saw.seq, saw.pid, saw.c);
-    put_halves(out, o6, entry)
-}
-
-fn put_entries(out: &mut [u8], at: usize, a: [Halves; 33], r: [Halves; 33]) -> usize
-    ensures { Wrote out.old out.new at result (spaced (rows (λ i. entry_numbers (get_or a i (halves 0 0)) (get_or r i (halves 0 0))) 33)) }
-{
-    let mut i: usize = 0;
-    let mut o = at;
-    while i < 33 {
-        let ea = a[i];
-        let er = r[i];
-        o = put_halves(out, o, ea);
-        o = put_halves(out, o, er);
-        i = i + 1;
+    for x in numbers {
+        page.put(b' ');
+        page.decimal(*x);
     }
-    o
 }
 
-fn put_stations(out: &mut [u8], at: usize, stations: [Station; 33]) -> usize
-    ensures { Wrote out.old out.new at result (spaced (rows (λ i. station_numbers (get_or stations i (resting 0))) 33)) }
+fn put_entries(page: &mut Page, a: &[Halves; 33], r: &[Halves; 33])
+    ensures { Writes page.old page.new (spaced (rows (λ i. entry_numbers (get_or a.now i (halves 0 0)) (get_or r.now i (halves 0 0))) 33)) }
 {
-    let mut i: usize = 0;
-    let mut o = at;
-    while i < 33 {
-        let t = stations[i];
-        o = put_station(out, o, t);
-        i = i + 1;
+    for i in 0..33 {
+        put_numbers(page, &[a[i].first, a[i].second, r[i].first, r[i].second]);
     }
-    o
 }
 
-fn put_bench(out: &mut [u8], at: usize, w: Bench) -> usize
-    ensures { Wrote out.old out.new at result (bench_text w) }
+fn put_station(page: &mut Page, t: Station)
+    ensures { Writes page.old page.new (spaced (station_numbers t)) }
 {
-    let v = w.v;
-    let p = w.p;
-    let a = w.a;
-    let r = w.r;
-    let stations = w.stations;
-    let o1 = decimal(out, at, w.n);
-    let o2 = put_halves(out, o1, v);
-    let o3 = put_three(out, o2, p.seq, p.pid, p.c);
-    let o4 = put_entries(out, o3, a, r);
-    let o5 = put_stations(out, o4, stations);
-    put(out, o5, b'\n')
+    put_numbers(
+        page,
+        &[
+            t.place.number(),
+            t.call.kind,
+            t.call.a,
+            t.call.b,
+            t.s,
+            t.own,
+            t.c,
+            t.saw.seq,
+            t.saw.pid,
+            t.saw.c,
+            t.entry.first,
+            t.entry.second,
+        ],
+    );
+}
+
+fn put_stations(page: &mut Page, stations: &[Station; 33])
+    ensures { Writes page.old page.new (spaced (rows (λ i. station_numbers (get_or stations.now i (resting 0))) 33)) }
+{
+    for t in stations {
+        put_station(page, *t);
+    }
+}
+
+fn put_bench(page: &mut Page, w: Bench)
+    ensures { Writes page.old page.new (bench_text w) }
+{
+    page.decimal(w.n);
+    put_numbers(page, &[w.v.first, w.v.second, w.p.seq, w.p.pid, w.p.c]);
+    put_entries(page, &w.a, &w.r);
+    put_stations(page, &w.stations);
+    page.put(b'\n');
 }
 
 fn hex_digit(d: u8) -> u8
@@ -100,119 +75,95 @@ fn hex_digit(d: u8) -> u8
     ensures { result ≡ hex_digit d }
 {
     if d < 10 {
-        return 48 + d;
+        return b'0' + d;
     }
-    87 + d
+    b'a' + (d - 10)
 }
 
-fn put_hex(out: &mut [u8], at: usize, b: u8) -> usize
-    ensures { Wrote out.old out.new at result (hexes (b ∷ [])) }
+fn put_hexes(page: &mut Page, bytes: &[u8])
+    ensures { Writes page.old page.new (hexes bytes.now) }
 {
-    let o = put(out, at, hex_digit(b / 16));
-    put(out, o, hex_digit(b % 16))
-}
-
-fn put_hexes(out: &mut [u8], at: usize, bytes: &[u8]) -> usize
-    ensures { Wrote out.old out.new at result (hexes bytes.now) }
-{
-    let mut i = 0;
-    let mut o = at;
-    while i < bytes.len() {
-        o = put_hex(out, o, bytes[i]);
-        i = i + 1;
+    for b in bytes {
+        page.put(hex_digit(*b / 16));
+        page.put(hex_digit(*b % 16));
     }
-    o
 }
 
-fn put_refused(out: &mut [u8], at: usize, n: u32) -> usize
-    ensures { Wrote out.old out.new at result (refused_text n) }
+fn put_refused(page: &mut Page, n: u32)
+    ensures { Writes page.old page.new (refused_text n) }
 {
-    let o1 = word(out, at, b"refused ");
-    let o2 = decimal(out, o1, n);
-    put(out, o2, b'\n')
+    page.word(b"refused ");
+    page.decimal(n);
+    page.put(b'\n');
 }
 
-fn put_ended(out: &mut [u8], at: usize, res: u32, own: u32) -> usize
-    ensures { Wrote out.old out.new at result (ended_text res own) }
+fn put_ended(page: &mut Page, res: u32, own: u32)
+    ensures { Writes page.old page.new (ended_text res own) }
 {
-    let o1 = word(out, at, b"ended ");
-    let o2 = decimal(out, o1, res);
-    let o3 = put(out, o2, b' ');
-    let o4 = decimal(out, o3, own);
-    put(out, o4, b'\n')
+    page.word(b"ended ");
+    page.decimal(res);
+    page.put(b' ');
+    page.decimal(own);
+    page.put(b'\n');
 }
 
-fn put_answer(out: &mut [u8], at: usize, answer: Answer) -> usize
-    ensures { Wrote out.old out.new at result (answer_text answer) }
+#[tactic(auto, unfolding(crate::specs::Text::answer_text))]
+fn put_answer(page: &mut Page, answer: Answer)
+    ensures { Writes page.old page.new (answer_text answer) }
 {
     match answer {
-        Answer::Idle => word(out, at, b"idle\n"),
-        Answer::Going => word(out, at, b"going\n"),
-        Answer::Ended { result, own } => put_ended(out, at, result, own),
-        Answer::Refused(n) => put_refused(out, at, n),
+        Answer::Idle => page.word(b"idle\n"),
+        Answer::Going => page.word(b"going\n"),
+        Answer::Ended { result, own } => put_ended(page, result, own),
+        Answer::Refused(n) => put_refused(page, n),
     }
 }
 
-fn put_sound(out: &mut [u8], good: bool) -> usize
-    ensures { Wrote out.old out.new 0 result (sound_text good) }
+fn put_sound(page: &mut Page, good: bool)
+    ensures { Writes page.old page.new (sound_text good) }
 {
     if good {
-        return word(out, 0, b"sound\n");
+        page.word(b"sound\n");
+    } else {
+        page.word(b"unsound\n");
     }
-    word(out, 0, b"unsound\n")
 }
 
-fn put_drawn(out: &mut [u8], at: usize, bytes: &[u8]) -> usize
-    ensures { Wrote out.old out.new at result (drawn_text bytes.now) }
+fn put_drawn(page: &mut Page, bytes: &[u8])
+    ensures { Writes page.old page.new (drawn_text bytes.now) }
 {
-    let o1 = word(out, at, b"picture ");
-    let o2 = put_hexes(out, o1, bytes);
-    put(out, o2, b'\n')
+    page.word(b"picture ");
+    put_hexes(page, bytes);
+    page.put(b'\n');
 }
 
-// The same with a page to draw on.
-fn put_picture_by(out: &mut [u8], at: usize, w: Bench, page: &mut [u8]) -> usize
-    requires { length page.old ≡ room }
-    ensures { Wrote out.old out.new at result (picture_text w) }
+fn put_picture(page: &mut Page, w: Bench)
+    ensures { Writes page.old page.new (picture_text w) }
 {
-    let d = picture::picture(w, page);
-    let len = d.len as usize;
-    if d.refused != 0 {
-        return put_refused(out, at, d.refused);
+    let mut drawn = [0u8; 528];
+    match picture::picture(w, &mut drawn) {
+        Ok(len) => put_drawn(page, &drawn[..len]),
+        Err(reason) => put_refused(page, reason.number()),
     }
-    put_drawn(out, at, &page[..len])
 }
 
-fn put_picture(out: &mut [u8], at: usize, w: Bench) -> usize
-    ensures { Wrote out.old out.new at result (picture_text w) }
-{
-    let mut page = [0u8; 528];
-    put_picture_by(out, at, w, &mut page)
-}
-
-// The four lines of a case, from the front of the buffer on.
-pub(crate) fn put_case(out: &mut [u8], row: &[u32]) -> usize
-    ensures { Wrote out.old out.new 0 result (case_text row.now) }
+// The four lines of a case.
+pub(crate) fn put_case(page: &mut Page, row: &[u32])
+    ensures { Writes page.old page.new (case_text row.now) }
 {
     let w = bench_of(row);
-    let station = cell(row, 534);
-    let kind = cell(row, 535);
-    let a = cell(row, 536);
-    let b = cell(row, 537);
-    let x = w.turn(station, kind, a, b);
-    let answer = x.answer;
-    let after = x.bench;
-    let o1 = put_sound(out, w.sound());
-    let o2 = put_answer(out, o1, answer);
-    let o3 = put_bench(out, o2, after);
-    put_picture(out, o3, after)
+    let x = w.turn(cell(row, 534), call_from(row, 535));
+    put_sound(page, w.sound());
+    put_answer(page, x.answer);
+    put_bench(page, x.bench);
+    put_picture(page, x.bench);
 }
 
 // The line that ends the output.
-pub(crate) fn put_fault(out: &mut [u8], at: usize, k: u32, words: &[u8]) -> usize
-    ensures { Wrote out.old out.new at result (fault_text k words.now) }
+pub(crate) fn put_fault(page: &mut Page, k: u32, words: &[u8])
+    ensures { Writes page.old page.new (fault_text k words.now) }
 {
-    let o1 = word(out, at, b"case ");
-    let o2 = decimal(out, o1, k);
-    word(out, o2, words)
+    page.word(b"case ");
+    page.decimal(k);
+    page.word(words);
 }

@@ -3,19 +3,18 @@
 // is refused 1 and not cut down; what is written has 40,960 bytes at most. Reading or writing that fails is told on standard error.
 #![tactic(auto)]
 
-fn reported(out: &impl Print, err: &impl Print, file: &[u8], text: &mut [u8]) {
-    let len = sheet::output(file, text);
-    standard::write_front(out, err, text, len, b"report: writing failed\n");
-}
-
 fn main(rt: HostRuntime) {
     let mut file = [0u8; 65536];
     let mut text = [0u8; 40960];
-    let got = standard::read_input(&mut rt.stdin(), &mut file);
-    if got.failed {
+    let Ok(len) = standard::read_input(&mut rt.stdin(), &mut file) else {
         let _ = eprintln!(rt; "report: reading failed");
         return;
-    }
-    let len = got.len;
-    reported(&rt.stdout(), &rt.stderr(), &file[..len], &mut text);
+    };
+    let len = sheet::output(&file[..len], &mut text);
+    standard::write_front(
+        &rt.stdout(),
+        &rt.stderr(),
+        &text[..len],
+        b"report: writing failed\n",
+    );
 }

@@ -49,7 +49,7 @@ use Rattle.run.specs.Run.{Run, noted, step_run, run_from}
 use Rattle.run.specs.Drive.{Good, NotesOf}
 use Rattle.run.proofs.Written.{read}
 use Rattle.run.proofs.Books.{same_change}
-use Rattle.run.proofs.Steps.{same_offer, station_good, idle_turn, acting, ended_noted, going_noted}
+use Rattle.run.proofs.Steps.{same_offer, idle_turn, acting, ended_noted, going_noted}
 use Rattle.run.proofs.After.{notes_are, fits_after, notes_after, counts_after}
 
 abbrev pub state : Bench → ℕ → Book → Run
@@ -211,7 +211,7 @@ module _ (n : ℕ) (start : Run) (table turns : List ℕ) (w : Bench) (row : Lis
 
     put : w' ≡ (put_back w i (reaching p i t) m).bench
     unfolding m
-    put = ap (λ z. z.bench) (moves ∙ sym (is_turn w i kept.is_sound (station_good w i low high) (reaching p i t) refl m o.kind o.a o.b refl))
+    put = ap (λ z. z.bench) (moves ∙ sym (is_turn w i kept.is_sound (λ z. omega arith) high (reaching p i t) refl m o.kind o.a o.b refl))
 
     moved_is : ht ≡ m.reach.station
     moved_is = ap (λ z. station_at z i) put ∙ get_or-set_same w.stations i m.reach.station (resting 0) (omega (arith, inside, kept.notes.stations))

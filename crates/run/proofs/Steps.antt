@@ -39,7 +39,7 @@ turn_is_step : (w : Bench) (i kind a b : ℕ) → sound w ≡ true → bad_stati
 unfolding turn_of step_of
 turn_is_step w i kind a b s p q = rw (s, p, q)
 
-pub station_good : (w : Bench) (i : ℕ) → 1 ≤ i → i ≤ w.n → bad_station w.n i ≡ false
+station_good : (w : Bench) (i : ℕ) → 1 ≤ i → i ≤ w.n → bad_station w.n i ≡ false
 station_good w i h g = rw (ne_eqb i 0 (λ e. omega arith), le-ltb w.n i g)
 
 -- what the errand offers is what the run offers

@@ -8,6 +8,7 @@ use native.Mathlib.Omega.{arith}
 use borrow.Author.Tests.{eqb-true, ltb-true, ltb-false, le-ltb, ne_eqb, not-false}
 use lib.Dec.{eqb, ltb}
 use lib.ListN.{length}
+use Rattle.rules.proofs.Reasons.{numbers_tell}
 use Rattle.rules.specs.Limits.{station_limit, call_limit, turn_limit}
 use Rattle.rules.specs.Refusal.{holds_at, earlier, proper}
 use Rattle.rules.specs.Row.{Row, verdict_of, refusals, k_at, RowsExactly, ExactRows}
@@ -113,4 +114,4 @@ refused_exactly = record { search = searched; reader = reader; emptied = emptied
 
 pub writer_settled : WriterSettled
 unfolding WriterSettled
-writer_settled x n table turns out answer answer' after after' v w = (v.answered ∙ sym w.answered, v.left ∙ sym w.left)
+writer_settled x n table turns out r s after after' v w = (numbers_tell.answers r s (v.answered ∙ sym w.answered), v.left ∙ sym w.left)

@@ -3,7 +3,7 @@ use Rattle.std.specs.Prelude.{◌≡◌, ◌↔◌, Bool, true, false, List, [],
 use Rattle.octets.specs.Bytes.{AllBytes}
 use Rattle.rules.specs.Refusal.{refusal_of, holds_at, GivenExactly}
 use Rattle.rules.specs.Row.{Row, refusals}
-use Rattle.rules.specs.Reason.{Numbers}
+use Rattle.rules.specs.Reason.{Numbers, numbers}
 use Rattle.rules.specs.declared.Reason.{Reason}
 use Rattle.runfile.specs.First.{first_of}
 use Rattle.runfile.specs.declared.CallRecord.{CallRecord}
@@ -107,8 +107,8 @@ pub record RefusedExactly : Type 0 where
 -- two answers with their buffers that the writer's contract allows for one input are the same
 unfoldable pub WriterSettled : Type 0
 WriterSettled =
-    (x n : ℕ) (table turns out : List ℕ) (answer answer' : Numbers) (after after' : List ℕ)
-    → Written x n table turns out answer after → Written x n table turns out answer' after' → (answer ≡ answer') × (after ≡ after')
+    (x n : ℕ) (table turns out : List ℕ) (r s : Result ℕ Reason) (after after' : List ℕ)
+    → Written x n table turns out (numbers r) after → Written x n table turns out (numbers s) after' → (r ≡ s) × (after ≡ after')
 
 -- the numbers of the reader's answer tell the answer
 unfoldable pub ReadsSettled : Type 0

@@ -4,6 +4,7 @@ use native.Mathlib.Omega.{arith}
 use borrow.Author.Tests.{eqb-true, le-ltb}
 use lib.Dec.{eqb}
 use lib.ListN.{length}
+use Rattle.rules.proofs.Reasons.{numbers_tell}
 use Rattle.rules.proofs.Facts.{either_way}
 use Rattle.runfile.specs.Reading.{read_of}
 use Rattle.runtext.specs.Text.{file_text, print_of}
@@ -12,7 +13,7 @@ use Rattle.runtext.proofs.Prints.{length-file-text}
 
 pub answer_is_settled : PrintSettled
 unfolding PrintSettled
-answer_is_settled file out a b c d v w = (v.answered ∙ sym w.answered, v.left ∙ sym w.left)
+answer_is_settled file out r s c d v w = (numbers_tell.answers r s (v.answered ∙ sym w.answered), v.left ∙ sym w.left)
 
 pub buffer_is_enough : AlwaysEnough
 unfolding AlwaysEnough print_of

@@ -1,8 +1,9 @@
 -- What is promised of a run file as text: a buffer of 153,635 bytes is always enough, and the contract settles all. Assumes nothing.
-use Rattle.std.specs.Prelude.{◌≡◌, List, ℕ, ◌≤◌}
+use Rattle.std.specs.Prelude.{◌≡◌, List, ℕ, ◌≤◌, Result}
 use Rattle.octets.specs.Bytes.{AllBytes}
 use Rattle.runfile.specs.Reading.{read_of}
-use Rattle.rules.specs.Reason.{Numbers}
+use Rattle.rules.specs.declared.Reason.{Reason}
+use Rattle.rules.specs.Reason.{Numbers, numbers}
 use Rattle.runtext.specs.Text.{print_of, PrintedTo}
 
 -- 14 is never given to a buffer of 153,635 bytes: a file is refused there as it is when it is read
@@ -11,4 +12,5 @@ AlwaysEnough = (file : List ℕ) (room : ℕ) → AllBytes file → 153635 ≤ r
 
 -- two answers with their buffers that the contract allows for one input are the same
 unfoldable pub PrintSettled : Type 0
-PrintSettled = (file out : List ℕ) (a b : Numbers) (c d : List ℕ) → PrintedTo file out a c → PrintedTo file out b d → (a ≡ b) × (c ≡ d)
+PrintSettled =
+    (file out : List ℕ) (r s : Result ℕ Reason) (c d : List ℕ) → PrintedTo file out (numbers r) c → PrintedTo file out (numbers s) d → (r ≡ s) × (c ≡ d)

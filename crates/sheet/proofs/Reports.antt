@@ -7,6 +7,7 @@ use native.Mathlib.Omega.{arith}
 use borrow.Author.Tests.{eq-eqb, eqb-true, leb-true, leb-false, lt-ltb, le-ltb}
 use lib.Dec.{leb, eqb}
 use lib.ListN.{length, drop}
+use Rattle.rules.proofs.Reasons.{numbers_tell}
 use Rattle.octets.specs.Bytes.{AllBytes}
 use Rattle.rules.proofs.Facts.{either_way}
 use Rattle.script.specs.Wrote.{Wrote}
@@ -116,4 +117,4 @@ always_enough file room h enough =
 
 pub settled : ReportSettled
 unfolding ReportSettled
-settled file out a b c d v w = (v.answered ∙ sym w.answered, v.left ∙ sym w.left)
+settled file out r s c d v w = (numbers_tell.answers r s (v.answered ∙ sym w.answered), v.left ∙ sym w.left)

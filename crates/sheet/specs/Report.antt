@@ -1,11 +1,12 @@
 -- Document 01, "Report": the report of a file, its refusals, and what is promised of it. Assumes nothing.
-use Rattle.std.specs.Prelude.{◌≡◌, cond, List, ◌++◌, ℕ, ◌≤◌, eqb, ltb, length, drop}
+use Rattle.std.specs.Prelude.{◌≡◌, cond, List, ◌++◌, ℕ, ◌≤◌, eqb, ltb, length, drop, Result}
 use Rattle.octets.specs.Bytes.{AllBytes}
 use Rattle.runfile.specs.Reading.{read_of, table_of}
 use Rattle.run.specs.Run.{Run}
 use Rattle.run.specs.Drive.{run_of_file}
 use Rattle.run.specs.Trace.{trace_by}
-use Rattle.rules.specs.Reason.{Numbers}
+use Rattle.rules.specs.declared.Reason.{Reason}
+use Rattle.rules.specs.Reason.{Numbers, numbers}
 use Rattle.lines.specs.Lines.{sheet_text}
 
 -- the sheet of a run of a table of so many calls
@@ -42,4 +43,5 @@ AlwaysEnough = (file : List ℕ) (room : ℕ) → AllBytes file → 40960 ≤ ro
 
 -- two answers with their buffers that the contract allows for one input are the same
 unfoldable pub ReportSettled : Type 0
-ReportSettled = (file out : List ℕ) (a b : Numbers) (c d : List ℕ) → ReportedTo file out a c → ReportedTo file out b d → (a ≡ b) × (c ≡ d)
+ReportSettled =
+    (file out : List ℕ) (r s : Result ℕ Reason) (c d : List ℕ) → ReportedTo file out (numbers r) c → ReportedTo file out (numbers s) d → (r ≡ s) × (c ≡ d)

@@ -1,21 +1,10 @@
-use mathlib.Core.Path.{refl}
+use borrow.Author.Rules.{rules}
 use Prim.Native.Nat.{◌+◌, ◌*◌}
-use native.Mathlib.Omega.{arith}
-use lib.ListN.{length-set}
-use Rattle.probing.specs.Numbers.{halves_from, each}
-use Rattle.probing.proofs.Filled.{one_filled}
+use Rattle.card.specs.Register.{halves}
+use Rattle.probing.specs.Numbers.{halves_from}
+use Rattle.probing.proofs.Filled.{each_given}
 use Rattle.probing.proofs.numbers.entries_from.Goals as goal
 
-pub loop-i-init : goal.loop-i-init
-unfolding each
-loop-i-init c = (omega arith, (refl, refl))
-
-pub loop-i-preserved : goal.loop-i-preserved
-unfolding each
-loop-i-preserved c = (
-  omega arith,
-  (
-    simp length-set c.loop-i.invariant.1.0,
-    one_filled (λ i. halves_from c.args.row.now (c.args.from + 4 * i)) c.loop-i.all c.loop-i.i c.loop-i.invariant.1.1 _ c.halves_from-e.ensures (omega arith),
-  ),
-)
+pub returns : goal.returns
+returns c =
+    each_given _ _ (λ i. halves_from c.args.row.now (c.args.from + 4 * i)) (λ i x q k. search rules) _ (halves 0 0) 33 c.from_fn.ensures.items

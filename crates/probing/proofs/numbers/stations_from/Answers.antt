@@ -1,21 +1,9 @@
-use mathlib.Core.Path.{refl, ap}
-use mathlib.Core.List.{[], ◌∷◌}
-use native.Mathlib.Omega.{arith}
-use lib.ListN.{length-set}
-use Rattle.probing.specs.Numbers.{place_at, station_from, each}
-use Rattle.probing.proofs.Filled.{one_filled}
+use borrow.Author.Rules.{rules}
+use Rattle.method.specs.Record.{resting}
+use Rattle.probing.specs.Numbers.{place_at, station_from}
+use Rattle.probing.proofs.Filled.{each_given}
 use Rattle.probing.proofs.numbers.stations_from.Goals as goal
 
-pub loop-i-init : goal.loop-i-init
-unfolding each
-loop-i-init c = (omega arith, (refl, ap (λ t. t ∷ []) c.station_from-first.ensures))
-
-pub loop-i-preserved : goal.loop-i-preserved
-unfolding each
-loop-i-preserved c = (
-  omega arith,
-  (
-    simp length-set c.loop-i.invariant.1.0,
-    one_filled (λ i. station_from c.args.row.now (place_at i)) c.loop-i.all c.loop-i.i c.loop-i.invariant.1.1 _ c.station_from-t.ensures (omega arith),
-  ),
-)
+pub returns : goal.returns
+returns c =
+    each_given _ _ (λ i. station_from c.args.row.now (place_at i)) (λ i x q k. search rules) _ (resting 0) 33 c.from_fn.ensures.items

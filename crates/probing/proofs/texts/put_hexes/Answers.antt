@@ -1,15 +1,13 @@
-use borrow.Author.Rules.{rules}
 use native.Mathlib.Omega.{arith}
-use Rattle.script.proofs.Writes.{still}
+use Rattle.script.proofs.Pages.{blank, then}
 use Rattle.probing.specs.Text.{hexes}
 use Rattle.probing.proofs.Spaced.{byte_more}
 use Rattle.probing.proofs.texts.put_hexes.Goals as goal
 
-pub loop-i-init : goal.loop-i-init
+pub loop-b-init : goal.loop-b-init
 unfolding hexes
-loop-i-init c = (search rules, still _ _ (omega arith) (omega arith))
+loop-b-init c = blank _ (omega arith)
 
-pub loop-i-preserved : goal.loop-i-preserved
+pub loop-b-preserved : goal.loop-b-preserved
 unfolding hexes
-loop-i-preserved c =
-    (omega arith, byte_more c.args.bytes.now c.loop-i.i (search rules) c.loop-i.invariant.1 c.put_hex-o.ensures)
+loop-b-preserved c = byte_more c.args.bytes.now _ (omega arith) c.loop-b.invariant (then (rw c.hex_digit.ensures at c.put.ensures) (rw c.hex_digit-in-loop-b.ensures at c.put-in-loop-b.ensures))
