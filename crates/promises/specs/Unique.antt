@@ -1,7 +1,7 @@
 -- For each public function whose contract is not one equation: two results that it allows for one input are equal, each lent byte with them.
 -- A contract that is one equation, r ≡ f of the inputs, needs nothing: r ≡ d and s ≡ d give r ≡ s, whatever d is. So with `octets::store`, which answers nothing and whose
--- one equation is of the lent bytes. Those of `script` (which are also the contracts of `lines` and `messages`), `runfile`, `runtext`, `drafting`, `sheet` and `probing`
--- that have predicates are shown there, beside them; where they speak of an answer's numbers, these tell the answer (`rules::numbers_tell_answers`). Assumes nothing.
+-- one equation is of the lent bytes. Those of `script` (which are also the contracts of `lines` and
+-- `messages`), `runfile`, `runtext`, `drafting`, `sheet` and `probing` that have predicates are shown there, beside them. Assumes nothing.
 use Rattle.std.specs.Prelude.{◌≡◌, List, Result, ℕ}
 use Rattle.rules.specs.declared.Reason.{Reason}
 use Rattle.rules.specs.Reason.{numbers}
