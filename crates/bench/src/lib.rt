@@ -15,7 +15,7 @@ use rules::Reason;
 mod sound;
 mod turns;
 
-// Entry 0 of a and r belongs to no station, nor does record 0, which stays as fresh.
+// Entry 0 of a and r belongs to no station, nor does record 0, which stays as fresh. A, R and the stations stay arrays of their own: document 01 has them so.
 #[derive(Clone, Copy)]
 pub struct Bench {
     pub n: u32,

@@ -63,6 +63,7 @@ impl Claim {
         max_written(self.seq, f, Claim { seq: f, pid, c }, self)
     }
 
+    // As of two halves; one function for both would be longer than the two, since only the first half's name differs.
     pub fn half_max(self, f: u32) -> Claim
         ensures { result ≡ half_claim self f }
     {

@@ -39,6 +39,7 @@ pub(crate) fn line_ended(text: &[u8], s: Scan, i: usize) -> Result<Draft, Expect
     ended(d)
 }
 
+// Between words of a line; a newline ends the line. A case of the probe has no lines, so what is blank there is another set.
 fn is_blank(b: u8) -> bool
     ensures { result ≡ is_blank b }
 {

@@ -14,7 +14,7 @@ use run::{BY_CALL, LAST, LIST, OWN, POINT, RESULT, Trace};
 use runfile::call_at;
 use script::Page;
 
-// What a line says of a listed call; it has an answer if it has ended.
+// What a line says of a listed call; it has an answer if it has ended. The kind is the number in the file's table.
 #[derive(Clone, Copy)]
 pub struct Line {
     pub place: u32,
@@ -73,7 +73,7 @@ fn put_last(page: &mut Page, t: Trace)
     page.put(b'\n');
 }
 
-// The number at place i of the part by call that starts at a place of the row; 0 past the part's end, or the row's.
+// The number at place i of the part by call that starts at a place of the row; 0 past the part's end, or the row's. (`probing` reads a row that has no parts.)
 fn cell(row: &[u32], start: usize, i: u32) -> u32
     requires { start ≤ row_places }
     ensures { result ≡ get_or (part row.now start by_call) i 0 }

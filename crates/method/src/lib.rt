@@ -48,6 +48,7 @@ pub struct Station {
     pub entry: Halves,
 }
 
+// What a turn answers. A refusal is its number, since the definitions of a turn (`or_refused`) give the number that a table of refusals gives.
 #[derive(Clone, Copy, PartialEq, Eq)]
 pub enum Answer {
     Idle,

@@ -45,7 +45,7 @@ pub(crate) struct Ledger<'a> {
     pub tally: Tally,
 }
 
-// What a turn is for that is not idle: its number, its station, the call, and whether the station was at rest.
+// What a turn is for that is not idle: its number, its station, the call, and whether the station was at rest, a fact of its own: the call is there either way.
 #[derive(Clone, Copy)]
 pub(crate) struct Errand {
     pub turn: u32,

@@ -26,7 +26,7 @@ pub struct Contents {
     pub t: usize,
 }
 
-// A call of the table: kind 0 is read, 1 set, 2 swap.
+// A call of the table: kind 0 is read, 1 set, 2 swap. It stays a number, since the bytes of a call may say any (refusal 7), and `call_at` tells them.
 #[derive(Clone, Copy, Default)]
 pub struct CallRecord {
     pub station: u32,

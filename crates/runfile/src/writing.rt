@@ -57,6 +57,7 @@ fn writable(n: u32, table: &[u8], turns: &[u8], room: usize) -> Result<(), Reaso
 }
 
 // Writes the file of x, n, the call table and the turns to the front of the buffer, and tells its length; refused, it leaves the buffer as it was.
+// The four come one by one, as `stepbench_write` has them of C.
 pub fn write(x: u32, n: u32, table: &[u8], turns: &[u8], out: &mut [u8]) -> Result<usize, Reason>
     ensures { Written x n table.now turns.now out.old (numbers result) out.new }
 {

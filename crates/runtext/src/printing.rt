@@ -86,7 +86,7 @@ fn put_turns(page: &mut Page, turns: &[u8])
     }
 }
 
-// The whole text, from the front of the buffer on.
+// The whole text, from the front of the buffer on. Only here are all four parts of a run taken, so they have no struct.
 fn put_text(out: &mut [u8], x: u32, n: u32, table: &[u8], turns: &[u8]) -> usize
     ensures { Wrote out.old out.new 0 result (text_of x n table.now turns.now) }
 {

@@ -68,7 +68,7 @@ impl<'a> Page<'a> {
         self.word(&digits[first..]);
     }
 
-    // The word for a call's kind: 0 is read, 1 set, any other swap.
+    // The word for a call's kind, which stays a number, as it is in a file's bytes: 0 is read, 1 set, any other swap.
     #[tactic(auto, unfolding(crate::specs::Kind::kind_word))]
     pub fn kind(&mut self, kind: u32)
         ensures { Writes self.old self.new (kind_word kind) }
