@@ -41,7 +41,7 @@ impl SoundBench {
 impl Bench {
     // One turn: the bench goes in and comes back. A refused turn hands back the bench given.
     #[tactic(auto, unfolding(crate::specs::Turn::turn_of))]
-    pub fn turn(self, station: u32, offer: Call) -> Turned
+    pub fn turn(mut self, station: u32, offer: Call) -> Turned
         ensures { result ≡ turn_of self station offer.kind offer.a offer.b }
     {
         if !self.sound() {
@@ -52,9 +52,10 @@ impl Bench {
         }
         let mut w = SoundBench { bench: self };
         let answer = w.turn(station, offer);
+        self = w.bench;
         Turned {
             answer,
-            bench: w.bench,
+            bench: self,
         }
     }
 }

@@ -116,7 +116,7 @@ impl Reach {
 
     // A station at rest begins the offered call, or is refused 12 or 13.
     #[tactic(auto, using(crate::proofs::Rest::at_rest))]
-    fn move_rest(self, offer: Call) -> Moved
+    fn move_rest(mut self, offer: Call) -> Moved
         requires { bad_offer offer.kind offer.a offer.b ≡ false }
         ensures { result ≡ step_of on_reach Rest self self.id self.station offer.kind offer.a offer.b }
     {
@@ -138,7 +138,7 @@ impl Reach {
 
     // One station's move. Refused 9, and nothing moved, where its numbers could wrap, as those of a sound bench cannot; then 11 to 13 as a turn is.
     #[tactic(auto, unfolding(crate::specs::Reach::move_of, crate::specs::Step::step_of))]
-    pub fn moved(self, offer: Call) -> Moved
+    pub fn moved(mut self, offer: Call) -> Moved
         ensures { result ≡ move_of self offer.kind offer.a offer.b }
     {
         if !ready(self.station) {
@@ -152,98 +152,89 @@ impl Reach {
 }
 
 impl Movable {
-    fn move_11(self) -> Moved
+    fn move_11(mut self) -> Moved
         ensures { result ≡ row11 on_reach self.reach self.reach.id self.reach.station }
     {
-        let mut reach = self.reach;
-        reach.station.c += 1;
-        let t = reach.station;
-        reach.a = Halves {
+        self.reach.station.c += 1;
+        let t = self.reach.station;
+        self.reach.a = Halves {
             first: t.c,
             second: t.call.b,
         };
-        reach.goes(Place::At12)
+        self.reach.goes(Place::At12)
     }
 
-    fn move_12(self) -> Moved
+    fn move_12(mut self) -> Moved
         ensures { result ≡ row12 on_reach self.reach self.reach.id self.reach.station }
     {
-        let mut reach = self.reach;
-        reach.r = Halves {
-            first: reach.station.c,
+        self.reach.r = Halves {
+            first: self.reach.station.c,
             second: 0,
         };
-        reach.goes(Place::At13)
+        self.reach.goes(Place::At13)
     }
 
-    fn move_13(self) -> Moved
+    fn move_13(mut self) -> Moved
         ensures { result ≡ row13 on_reach self.reach self.reach.id self.reach.station }
     {
-        let mut reach = self.reach;
-        let t = reach.station;
-        reach.p = reach.p.max_write(t.s + 1, reach.id, t.c);
-        reach.goes(Place::At14)
+        let t = self.reach.station;
+        self.reach.p = self.reach.p.max_write(t.s + 1, self.reach.id, t.c);
+        self.reach.goes(Place::At14)
     }
 
-    fn move_14(self) -> Moved
+    fn move_14(mut self) -> Moved
         ensures { result ≡ row14 on_reach self.reach self.reach.id self.reach.station }
     {
-        let mut reach = self.reach;
-        reach.p = reach.p.half_max(reach.station.s + 2);
-        reach.goes(Place::At15)
+        self.reach.p = self.reach.p.half_max(self.reach.station.s + 2);
+        self.reach.goes(Place::At15)
     }
 
-    fn move_15(self) -> Moved
+    fn move_15(mut self) -> Moved
         ensures { result ≡ row15 on_reach self.reach self.reach.id self.reach.station }
     {
-        let mut reach = self.reach;
-        reach.station.saw = reach.p;
-        reach.goes(Place::At16)
+        self.reach.station.saw = self.reach.p;
+        self.reach.goes(Place::At16)
     }
 
-    fn move_16(self) -> Moved
+    fn move_16(mut self) -> Moved
         ensures { result ≡ row16 on_reach self.reach self.reach.id self.reach.station }
     {
-        let mut reach = self.reach;
-        reach.station.entry = reach.a;
-        let place = after_16(reach.station.saw, reach.a);
-        reach.goes(place)
+        self.reach.station.entry = self.reach.a;
+        let place = after_16(self.reach.station.saw, self.reach.a);
+        self.reach.goes(place)
     }
 
-    fn move_18(self) -> Moved
+    fn move_18(mut self) -> Moved
         ensures { result ≡ row18 on_reach self.reach self.reach.id self.reach.station }
     {
-        let mut reach = self.reach;
-        reach.r = reach.r.max_write(reach.station.entry.first, 1);
-        reach.goes(Place::At19)
+        self.reach.r = self.reach.r.max_write(self.reach.station.entry.first, 1);
+        self.reach.goes(Place::At19)
     }
 
-    fn move_19(self) -> Moved
+    fn move_19(mut self) -> Moved
         ensures { result ≡ row19 on_reach self.reach self.reach.id self.reach.station }
     {
-        let mut reach = self.reach;
-        let t = reach.station;
-        reach.v = reach.v.max_write(t.saw.seq, t.entry.second);
-        reach.goes(Place::At20)
+        let t = self.reach.station;
+        self.reach.v = self.reach.v.max_write(t.saw.seq, t.entry.second);
+        self.reach.goes(Place::At20)
     }
 
-    fn move_20(self) -> Moved
+    fn move_20(mut self) -> Moved
         ensures { result ≡ row20 on_reach self.reach self.reach.id self.reach.station }
     {
-        let mut reach = self.reach;
-        let t = reach.station;
-        let result = handed(t.call.kind, reach.r.second, t.call.a);
-        reach.station = Station {
+        let t = self.reach.station;
+        let result = handed(t.call.kind, self.reach.r.second, t.call.a);
+        self.reach.station = Station {
             c: t.c,
             ..Station::default()
         };
         let own = t.own + 1;
-        reach.answers(Answer::Ended { result, own })
+        self.reach.answers(Answer::Ended { result, own })
     }
 
     // The operation of the place where the station stands.
     #[tactic(auto, unfolding(crate::specs::Step::step_of, method::specs::Table::row))]
-    fn moves(self, offer: Call) -> Moved
+    fn moves(mut self, offer: Call) -> Moved
         requires { bad_offer offer.kind offer.a offer.b ≡ false }
         ensures { result ≡ step_on on_reach self.reach self.reach.id self.reach.station offer.kind offer.a offer.b }
     {
