@@ -8,6 +8,7 @@ use lib.Dec.{eqb}
 use lib.ListN.{length, get_or, take, drop}
 use Rattle.std.proofs.lemmas.List.{take-append-drop}
 use Rattle.script.proofs.Pages.{then}
+use Rattle.std.specs.Prelude.{Result, MatchResult, Ok, Err}
 use Rattle.drafting.specs.declared.Expected.{Expected}
 use Rattle.drafting.specs.declared.Complaint.{Complaint}
 use Rattle.drafting.specs.declared.Draft.{Draft}
@@ -45,16 +46,23 @@ unfolding run step
 past s [] h = refl
 past s (b ∷ bs) h = rw (ne_eqb s.draft.expected 0 h) (past s bs h)
 
-pub refused_on : {calls calls' moves moves' : Page} {line : ℕ} (x : Expected) (text : List ℕ) (i : ℕ) {s : Scan} → i < length text
-    → Gathered text i calls calls' moves moves' s (take i text) → RefusedAt (step (scanned text i s) (get_or text i 0)) line x
-    → RefusedAt (run no_scan text) line x
-refused_on x text i {s} h g r =
+-- a result that has the line beside what was expected
+pub with_line : {A : Type 0} (P : A → Type 0) (Q : Expected → Type 0) (line : ℕ) (r : Result A Expected) (s : Result A Complaint)
+    → MatchResult r (λ n. s ≡ Ok n) (λ x. s ≡ Err (record { line = line; expected = x })) → MatchResult r P Q
+    → MatchResult s P (λ c. (line ≡ c.line) × Q c.expected)
+with_line P Q line (Ok n) s e k = rw e k
+with_line P Q line (Err x) s e k = rw e (refl, k)
+
+pub refused_on : {calls calls' moves moves' : Page} {line : ℕ} (c : Complaint) (text : List ℕ) (i : ℕ) {s : Scan} → i < length text
+    → Gathered text i calls calls' moves moves' s (take i text) → (line ≡ c.line) × RefusedAt (step (scanned text i s) (get_or text i 0)) line c.expected
+    → RefusedAt (run no_scan text) c.line c.expected
+refused_on c text i {s} h g r =
     let t = step (scanned text i s) (get_or text i 0) in
     let n : run no_scan (take (i + 1) text) ≡ t = run_more no_scan text i h ∙ ap (λ t. step t (get_or text i 0)) g.reads in
     let e : run no_scan text ≡ t =
     ap (run no_scan) (sym (take-append-drop (i + 1) text)) ∙ run_both no_scan (take (i + 1) text) (drop (i + 1) text)
-    ∙ ap (λ t. run t (drop (i + 1) text)) n ∙ past t (drop (i + 1) text) (λ z. above x (sym r.1.1 ∙ z)) in
-    rw e r
+    ∙ ap (λ t. run t (drop (i + 1) text)) n ∙ past t (drop (i + 1) text) (λ z. above c.expected (sym r.1.1.1 ∙ z)) in
+    rw (e, ← r.0) r.1
 
 -- the end of a text at which something was refused
 pub refused_last : (text : List ℕ) (c : Complaint) → RefusedAt (run no_scan text) c.line c.expected → Complains text c

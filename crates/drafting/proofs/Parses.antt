@@ -10,7 +10,7 @@ use lib.Seq.{take_at}
 use Rattle.rules.proofs.Facts.{either_way}
 use Rattle.script.specs.Wrote.{Wrote}
 use Rattle.script.proofs.Writes.{same_length, size, in_front}
-use Rattle.std.specs.Prelude.{Result, Ok, Err}
+use Rattle.std.specs.Prelude.{Result, MatchResult, Ok, Err}
 use Rattle.rules.specs.Limits.{call_limit, turn_limit}
 use Rattle.rules.specs.declared.Reason.{Reason}
 use Rattle.rules.specs.Reason.{Numbers, numbers, number_of}
@@ -19,12 +19,13 @@ use Rattle.runfile.specs.Writing.{Written}
 use Rattle.runfile.proofs.Writes.{clear_writes}
 use Rattle.drafting.specs.declared.Draft.{Draft}
 use Rattle.script.specs.declared.Page.{Page}
+use Rattle.drafting.specs.declared.Expected.TheVariants.{Room}
 use Rattle.drafting.specs.declared.Complaint.{Complaint}
 use Rattle.drafting.specs.Draft.{Drafted}
 use Rattle.drafting.specs.Expected.{expected_number}
 use Rattle.drafting.specs.Gather.{Told, Complains}
 use Rattle.drafting.specs.Scan.{no_scan, run}
-use Rattle.drafting.specs.Parse.{last_draft, lacking, table_in, turns_in, file_in, length_in, parsed, parse_of, parsed_on, ParsedTo}
+use Rattle.drafting.specs.Parse.{last_draft, lacking, table_in, turns_in, file_in, length_in, parsed, parsed_numbers, parse_of, parsed_on, ParsedTo}
 use Rattle.drafting.proofs.Steps.{above as named}
 use Rattle.drafting.proofs.Writable.{written, no_room}
 use Rattle.drafting.proofs.Sane.{table_fits, turns_fit, tells_good}
@@ -86,6 +87,16 @@ module _ (text out : List ℕ) (h : lacking (last_draft text) ≡ 0) (r : Result
       either_way (ltb (length out) (length_in text))
       (λ t. record { answered = rw (b, t); left = p.left })
       (λ g. absurd (above e (ap (λ a. a.expected) p.answered ∙ rw (b, g))))
+
+-- the answer that is made of the writer's
+abbrev no_room_told : Complaint
+no_room_told = record { line = 0; expected = Room }
+
+pub judged : (text out : List ℕ) → lacking (last_draft text) ≡ 0 → (r : Result ℕ Reason) (after : List ℕ)
+    → Written (last_draft text).x (last_draft text).n (table_in text) (turns_in text) out (numbers r) after
+    → (s : Result ℕ Complaint) → MatchResult r (λ len. s ≡ Ok len) (λ e. s ≡ Err no_room_told) → ParsedTo text out (parsed_numbers s) after
+judged text out h (Ok len) after w s e = rw e (wrote_all text out h (Ok len) after w len refl)
+judged text out h (Err x) after w s e = rw e (no_place text out h (Err x) after w x refl)
 
 -- what the pages hold of a text
 module _ {text : List ℕ} {calls calls' moves moves' : Page} {d : Draft} (t : Told text calls calls' moves moves' d) (n : calls.at ≡ 0) (m : moves.at ≡ 0)

@@ -65,18 +65,10 @@ fn gathered(text: &[u8], calls: &mut Page, moves: &mut Page) -> Result<Scan, Com
 {
     let mut s = fresh();
     for i in 0..text.len() {
-        match step(text, s, i) {
-            Ok(next) => {
-                put_more(calls, moves, s.draft, next.draft);
-                s = next;
-            }
-            Err(expected) => {
-                return Err(Complaint {
-                    line: s.line,
-                    expected,
-                });
-            }
-        }
+        let line = s.line;
+        let next = step(text, s, i).map_err(|expected| Complaint { line, expected })?;
+        put_more(calls, moves, s.draft, next.draft);
+        s = next;
     }
     Ok(s)
 }
@@ -97,14 +89,8 @@ pub(crate) fn told(text: &[u8], calls: &mut Page, moves: &mut Page) -> Result<Dr
     ensures { ToldTo text.now calls.old calls.new moves.old moves.new result }
 {
     let s = gathered(text, calls, moves)?;
-    match at_end(text, s) {
-        Ok(d) => {
-            put_more(calls, moves, s.draft, d);
-            Ok(d)
-        }
-        Err(expected) => Err(Complaint {
-            line: s.line,
-            expected,
-        }),
-    }
+    let line = s.line;
+    let d = at_end(text, s).map_err(|expected| Complaint { line, expected })?;
+    put_more(calls, moves, s.draft, d);
+    Ok(d)
 }

@@ -21,11 +21,8 @@ pub fn parse(text: &[u8], out: &mut [u8]) -> Result<usize, Complaint>
     let d = told(text, &mut calls, &mut moves)?;
     let a = calls.at;
     let b = moves.at;
-    match runfile::write(d.x, d.n, &table[..a], &turns[..b], out) {
-        Ok(len) => Ok(len),
-        Err(_) => Err(Complaint {
-            line: 0,
-            expected: Expected::Room,
-        }),
-    }
+    runfile::write(d.x, d.n, &table[..a], &turns[..b], out).map_err(|_| Complaint {
+        line: 0,
+        expected: Expected::Room,
+    })
 }

@@ -1,6 +1,6 @@
 use borrow.Author.Rules.{rules}
 use Rattle.std.proofs.lemmas.Result.{err_from_is_err_and}
-use Rattle.drafting.proofs.Parses.{complained, calls_end, moves_end, written_of, wrote_all, no_place}
+use Rattle.drafting.proofs.Parses.{complained, calls_end, moves_end, written_of, judged}
 use Rattle.drafting.proofs.parsing.parse.Goals as goal
 
 pub returns-in_err-d : goal.returns-in_err-d
@@ -28,14 +28,8 @@ slice_bounds-write-end-2 c =
     let e = moves_end c.in_ok-d.ensures c.new-calls.ensures.place c.new-moves.ensures.place (search rules) (search rules) in
     search rules
 
-pub returns-in-Ok : goal.returns-in-Ok
-returns-in-Ok c =
+pub returns : goal.returns
+returns c =
     let t = c.in_ok-d.ensures in
     let w = written_of t c.new-calls.ensures.place c.new-moves.ensures.place (search rules) (search rules) (search rules) (search rules) c.write.ensures in
-    wrote_all _ _ t.whole _ _ w _ c.in-Ok.is
-
-pub returns-in-Err : goal.returns-in-Err
-returns-in-Err c =
-    let t = c.in_ok-d.ensures in
-    let w = written_of t c.new-calls.ensures.place c.new-moves.ensures.place (search rules) (search rules) (search rules) (search rules) c.write.ensures in
-    no_place _ _ t.whole _ _ w _ c.in-Err.is
+    judged _ _ t.whole _ _ w c.map_err.result (search rules)
