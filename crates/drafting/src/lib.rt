@@ -57,7 +57,7 @@ impl Expected {
     }
 }
 
-// The line, from 1, and what was expected there; line 0 for a buffer that is too short.
+// The line, from 1, and what was expected there; `parse` gives line 0 with Room.
 #[derive(Clone, Copy, PartialEq, Eq)]
 pub struct Complaint {
     pub line: usize,

@@ -16,7 +16,7 @@ pub fn store(out: &mut [u8], x: u64)
     }
 }
 
-// A byte as a wider number.
+// A byte as a wider number. The rooms above write `u32::from`; this stays, as it was promised.
 pub fn wide(b: u8) -> u32
     ensures { result ≡ b }
 {

@@ -5,6 +5,9 @@
 use Rattle.std.specs.Prelude.{◌≡◌, List, Result, ℕ}
 use Rattle.rules.specs.declared.Reason.{Reason}
 use Rattle.rules.specs.Reason.{numbers}
+use Rattle.method.specs.declared.Place.{Place}
+use Rattle.method.specs.declared.NoPlace.{NoPlace}
+use Rattle.method.specs.Record.{Names}
 use Rattle.bench.specs.declared.Bench.{Bench}
 use Rattle.run.specs.declared.Trace.{Trace}
 use Rattle.run.specs.Trace.{trace_numbers, TracedTo}
@@ -20,5 +23,6 @@ Unique X allowed = (x y : X) → allowed x → allowed y → x ≡ y
 
 -- each by the predicate that its function ensures
 pub record OneResult : Type 0 where
+  pub place : (number : ℕ) → Unique (Result Place NoPlace) (Names number)
   pub picture : (w : Bench) (out : List ℕ) → Unique (Left (Result ℕ Reason)) (λ r. DrawnTo w out (numbers r.result) r.out)
   pub traced : (file row : List ℕ) → Unique (Left (Result Trace Reason)) (λ r. TracedTo file row (trace_numbers r.result) r.out)

@@ -3,7 +3,7 @@ use Rattle.std.specs.Prelude.{◌≡◌, List, ℕ, ◌≤◌, Result}
 use Rattle.octets.specs.Bytes.{AllBytes}
 use Rattle.runfile.specs.Reading.{read_of}
 use Rattle.rules.specs.declared.Reason.{Reason}
-use Rattle.rules.specs.Reason.{Numbers, numbers}
+use Rattle.rules.specs.Reason.{numbers}
 use Rattle.runtext.specs.Text.{print_of, PrintedTo}
 
 -- 14 is never given to a buffer of 153,635 bytes: a file is refused there as it is when it is read

@@ -1,7 +1,7 @@
 -- Decimal numbers: their digits, how many they are, and the scratch row that holds them. Assumes nothing.
 use mathlib.Core.Path.{◌≡◌, refl, ◌∙◌, sym, ap}
 use mathlib.Core.Bool.{cond}
-use mathlib.Core.List.{List, [], ◌∷◌, ◌++◌, append_assoc, append-nil}
+use mathlib.Core.List.{List, [], ◌∷◌, ◌++◌, append_assoc}
 use Prim.Native.Nat.{ℕ, zero, suc, ◌+◌, ◌-◌, ◌/◌, ◌%◌, ◌^◌, ◌<◌, ◌≤◌}
 use native.Mathlib.Omega.{arith}
 use native.Mathlib.Nat.{pow-suc}
@@ -10,7 +10,7 @@ use borrow.Author.Tests.{ltb-true, ltb-false, lt-ltb, le-ltb}
 use lib.Dec.{ltb}
 use lib.ListN.{length, set, take, drop, length-append, length-set, length-drop}
 use lib.Seq.{take_all}
-use Rattle.std.proofs.lemmas.List.{drop-set, drop_all}
+use Rattle.std.proofs.lemmas.List.{drop-set}
 use Rattle.rules.proofs.Facts.{either_way}
 use Rattle.script.specs.Decimal.{digit, digits_in, decimal}
 
@@ -75,10 +75,6 @@ pub record Filled (x n first : ℕ) (digits : List ℕ) : Type 0 where
   pub few : n < 10 ^ (first + 1)
   pub last : first ≤ 9
   pub told : decimal x ≡ decimal n ++ drop (first + 1) digits
-
-pub filled_none : (x : ℕ) (digits : List ℕ) → x < 2 ^ 32 → length digits ≡ 10 → Filled x x 9 digits
-filled_none x digits h e =
-    record { ten = e; few = omega arith; last = omega arith; told = sym (ap (λ l. decimal x ++ l) (drop_all 10 digits (omega arith)) ∙ append-nil (decimal x)) }
 
 module _ {x n first : ℕ} {digits : List ℕ} (f : Filled x n first digits) where
   -- there is room for another digit

@@ -2,10 +2,16 @@
 // What is read and written no contract can say; how many bytes of the buffer were read it does.
 #![tactic(auto)]
 
-ghost use Rattle.std.specs.Prelude.{◌≤◌, length};
+ghost use Rattle.std.specs.Prelude.{◌≤◌, length, IfErr};
 ghost use Rattle.std.specs.Io.{ReadsAtMost};
 
-use std::io::{Error, Read, Result};
+use std::io::Read;
+
+// A read failed; so many bytes had come before it.
+#[derive(Clone, Copy)]
+pub struct Failed {
+    pub len: usize,
+}
 
 // Reads until the buffer is full, the input ends or a read fails.
 fn read_full(from: &mut impl Read, buf: &mut [u8]) -> usize
@@ -23,15 +29,15 @@ fn read_full(from: &mut impl Read, buf: &mut [u8]) -> usize
 }
 
 // How many bytes stand at the front of the buffer. One more read tells the end of the input from a read that failed.
-pub fn read_input(from: &mut impl Read, buf: &mut [u8]) -> Result<usize>
-    ensures { ReadsAtMost result buf.new }
+pub fn read_input(from: &mut impl Read, buf: &mut [u8]) -> Result<usize, Failed>
+    ensures ok { ReadsAtMost result buf.new }
+    ensures err { IfErr result (λ f. f.len ≤ length buf.new) }
 {
     let len = read_full(from, buf);
-    let more = from.read(&mut [0u8; 1])?;
-    if (len < buf.len()) & (more != 0) {
-        return Err(Error::other("the input was not at its end"));
+    match from.read(&mut [0u8; 1]) {
+        Ok(more) if (len == buf.len()) | (more == 0) => Ok(len),
+        _ => Err(Failed { len }),
     }
-    Ok(len)
 }
 
 // Writes the bytes. Where that fails, the line lost goes to standard error.
