@@ -1,6 +1,7 @@
 // The test of a sound bench, sentence by sentence. It assumes nothing of the bench.
-ghost use Rattle.std.specs.Prelude.{◌≡◌, ◌<◌, not, ◌||◌};
+ghost use Rattle.std.specs.Prelude.{◌≡◌, ◌<◌, not, ◌&&◌, ◌||◌, leb, eqb};
 ghost use Rattle.rules.specs.Test.{passes, pass, all_kept};
+ghost use Rattle.method.specs.Record.{num};
 ghost use Rattle.reach.specs.Step.{count_limit};
 ghost use Rattle.bench.specs.Record.{a_at, r_at, station_at};
 ghost use Rattle.bench.specs.Sound.{unread, zero_but_count, fresh_station, own_turns, called, agreed, zero_halves, a_rules, r_rules, rules_of, entry_kept, each_entry, head_rules, sound};
@@ -80,22 +81,36 @@ fn agreed(t: Station) -> bool
     t.saw.seq % 2 == 0 && t.saw.c == t.entry.first
 }
 
+fn at_11_to_15(p: Place) -> bool
+    ensures { result ≡ (leb 11 (num p) && leb (num p) 15) }
+{
+    matches!(
+        p,
+        Place::At11 | Place::At12 | Place::At13 | Place::At14 | Place::At15
+    )
+}
+
+fn at_18_or_19(p: Place) -> bool
+    ensures { result ≡ (eqb (num p) 18 || eqb (num p) 19) }
+{
+    matches!(p, Place::At18 | Place::At19)
+}
+
 fn station_ok(t: Station, n: u32, i: u32) -> bool
     ensures { result ≡ all_kept (rules_of count_limit n i t) }
 {
-    let k = t.place.number();
     let zero_but_count = zero_but_count(t);
     let fresh = fresh(t);
     t.c <= Bench::COUNT
         && given(n < i, fresh)
         && given(i == 0, fresh)
-        && given(k == 0, zero_but_count)
+        && given(t.place == Place::Rest, zero_but_count)
         && own_turns(t)
-        && given(k != 0, called(t, n))
-        && given(k == 11, t.c < Bench::COUNT)
-        && given((11 <= k) & (k <= 15), unread(t))
-        && given(k == 16, zero(t.entry))
-        && given((k == 18) | (k == 19), agreed(t))
+        && given(t.place != Place::Rest, called(t, n))
+        && given(t.place == Place::At11, t.c < Bench::COUNT)
+        && given(at_11_to_15(t.place), unread(t))
+        && given(t.place == Place::At16, zero(t.entry))
+        && given(at_18_or_19(t.place), agreed(t))
 }
 
 fn a_ok(a: Halves, n: u32, i: u32) -> bool
