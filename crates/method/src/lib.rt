@@ -12,16 +12,16 @@ use card::{Claim, Halves};
 #[derive(Clone, Copy, PartialEq, Eq, Default)]
 pub enum Place {
     #[default]
-    Rest,
-    At11,
-    At12,
-    At13,
-    At14,
-    At15,
-    At16,
-    At18,
-    At19,
-    At20,
+    Rest = 0,
+    At11 = 11,
+    At12 = 12,
+    At13 = 13,
+    At14 = 14,
+    At15 = 15,
+    At16 = 16,
+    At18 = 18,
+    At19 = 19,
+    At20 = 20,
 }
 
 // A number that is no place's.
@@ -62,18 +62,7 @@ impl Place {
     pub fn number(self) -> u32
         ensures { result ≡ num self }
     {
-        match self {
-            Place::Rest => 0,
-            Place::At11 => 11,
-            Place::At12 => 12,
-            Place::At13 => 13,
-            Place::At14 => 14,
-            Place::At15 => 15,
-            Place::At16 => 16,
-            Place::At18 => 18,
-            Place::At19 => 19,
-            Place::At20 => 20,
-        }
+        self as u32
     }
 }
 
