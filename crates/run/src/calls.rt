@@ -30,6 +30,7 @@ pub(crate) fn errand(t: Station, turn: u32, station: u32, next: u32, latest: u32
 }
 
 // The errand's call as an offer to a station at rest; none to a station in one.
+// A `Call` from a `CallRecord` is made here and by no `From`: neither type is this crate's.
 #[tactic(auto, unfolding(runfile::specs::Layout::call_of))]
 pub(crate) fn offered(table: &[u8], e: Errand) -> Call
     requires { e.rests ≡ true → 0 < e.call }
