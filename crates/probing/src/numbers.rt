@@ -14,7 +14,8 @@ pub(crate) fn cell(row: &[u32], i: usize) -> u32
     row.get(i).copied().unwrap_or(0)
 }
 
-// The place of that number; at rest where it is no place's.
+// The place of that number; at rest where it is no place's. Test and place stay two functions, since `is_place` and `place_of` stand under
+// `NumbersSayBenches` and `case_text`, which know a bench of any row.
 #[tactic(auto, using(crate::proofs::Places::named))]
 fn place_of(x: u32) -> Place
     ensures { result ≡ place_of x }
