@@ -24,6 +24,7 @@ fn put_numbers(page: &mut Page, numbers: &[u32])
     }
 }
 
+// By index: `rows` tells the text by place, and a `zip` of the two has none, so that is no plainer.
 fn put_entries(page: &mut Page, a: &[Halves; 33], r: &[Halves; 33])
     ensures { Writes page.old page.new (spaced (rows (λ i. entry_numbers (get_or a.now i (halves 0 0)) (get_or r.now i (halves 0 0))) 33)) }
 {
