@@ -9,9 +9,9 @@ use crate::words::{from1_to, is, value};
 use crate::{Draft, Expected, Stage};
 use runfile::CallRecord;
 
-const MOST_CALLS: usize = rules::CALLS as usize;
+pub(crate) const MOST_CALLS: usize = rules::CALLS as usize;
 
-const MOST_TURNS: usize = rules::TURNS as usize;
+pub(crate) const MOST_TURNS: usize = rules::TURNS as usize;
 
 fn keyword(d: Draft, there: bool, stage: Stage, expected: Expected) -> Result<Draft, Expected>
     ensures { Drafts result (keyword (drafted d) there stage (expected_number expected)) }
