@@ -41,6 +41,7 @@ fn put_call(page: &mut Page, c: CallRecord)
     page.put(b'\n');
 }
 
+#[tactic(auto, using(script::proofs::Pages::blank), unfolding(crate::specs::Text::calls_text))]
 fn put_calls(page: &mut Page, table: &[u8])
     ensures { Writes page.old page.new (calls_text table.now (records table.now)) }
 {
@@ -69,6 +70,7 @@ fn put_turn(page: &mut Page, turns: &[u8], i: usize)
     }
 }
 
+#[tactic(auto, using(script::proofs::Pages::blank), unfolding(crate::specs::Text::rows_text))]
 fn put_rows(page: &mut Page, turns: &[u8])
     ensures { Writes page.old page.new (rows_text turns.now (length turns.now)) }
 {
