@@ -44,6 +44,8 @@ fn put_call(page: &mut Page, c: CallRecord)
     page.put(b'\n');
 }
 
+// Calls go by number, from 1 on, and are counted from 0: `1..=` is no plainer, since the loop then ends in two ways, each with an answer
+// of its own, and keeps the lines of i - 1 calls.
 #[tactic(auto, using(script::proofs::Pages::blank), unfolding(crate::specs::Text::calls_text))]
 fn put_calls(page: &mut Page, table: &[u8])
     ensures { Writes page.old page.new (calls_text table.now (records table.now)) }
