@@ -33,7 +33,7 @@ pub struct SoundBench {
     pub ghost is_sound: { sound bench ≡ true },
 }
 
-// What a turn hands back.
+// What a turn hands back. It and `Moved` of reach stay two types, since `turn_of` and `move_of` give these records.
 #[derive(Clone, Copy)]
 pub struct Turned {
     pub answer: Answer,
@@ -48,6 +48,7 @@ pub struct Made {
 }
 
 impl Bench {
+    // The limits of `rules` again, since document 01 wants them here: a constructor beside associated constants.
     pub const STATIONS: u32 = rules::STATIONS;
 
     pub const CALLS: u32 = rules::CALLS;

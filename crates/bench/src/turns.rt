@@ -39,7 +39,7 @@ impl SoundBench {
 }
 
 impl Bench {
-    // One turn: the bench goes in and comes back. A refused turn hands back the bench given.
+    // One turn: the bench goes in and comes back. A refused turn hands back the bench given. `mut self`, written and handed back, is document 01's form.
     #[tactic(auto, unfolding(crate::specs::Turn::turn_of))]
     pub fn turn(mut self, station: u32, offer: Call) -> Turned
         ensures { result ≡ turn_of self station offer.kind offer.a offer.b }
