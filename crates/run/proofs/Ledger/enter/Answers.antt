@@ -1,3 +1,4 @@
+-- The bounds are answered by name: tried with `using` on such lemmas of Points, and the search did not close them.
 use mathlib.Core.Path.{refl}
 use native.Mathlib.Omega.{arith}
 use Rattle.run.proofs.Points.{point_in, list_in, not_a_call, has_one, place, entered}
