@@ -74,7 +74,8 @@ fn in_word(s: Scan, i: usize) -> Scan
     }
 }
 
-// A byte more: the one at place i.
+// A byte more: the one at place i. The text, the scan and the place go side by side (tried: a struct of the three with ghost fields;
+// Begun goes by cases, and the check found no proof alone that a ghost field of it is a proposition).
 #[tactic(auto, using(crate::proofs::Steps::newline_refused, crate::proofs::Steps::in_a_comment, crate::proofs::Steps::by_mark, crate::proofs::Steps::by_blank, crate::proofs::Steps::by_letter))]
 pub(crate) fn step(text: &[u8], s: Scan, i: usize) -> Result<Scan, Expected>
     requires { (i < length text.now) × Begun i s.within }
