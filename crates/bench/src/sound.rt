@@ -80,6 +80,7 @@ fn agreed(t: Station) -> bool
     t.saw.seq % 2 == 0 && t.saw.c == t.entry.first
 }
 
+// Places by their numbers, as the definition has them ("at 11 to 15"); with `matches!` the goal would have two more functions to prove.
 fn station_ok(t: Station, n: u32, i: u32) -> bool
     ensures { result ≡ all_kept (rules_of count_limit n i t) }
 {
