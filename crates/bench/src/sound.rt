@@ -81,6 +81,7 @@ fn agreed(t: Station) -> bool
     t.saw.seq % 2 == 0 && t.saw.c == t.entry.first
 }
 
+// Both as the definition has them, by number: two functions, since with `matches!` in the test itself the search leaves two goals.
 fn at_11_to_15(p: Place) -> bool
     ensures { result ≡ (leb 11 (num p) && leb (num p) 15) }
 {

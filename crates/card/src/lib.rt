@@ -29,6 +29,7 @@ fn max_written<R: Copy>(first: u32, f: u32, new: R, old: R) -> R
 }
 
 impl Halves {
+    // Its parameters and those of `Claim`'s are the halves, as document 01 writes them, so the two have a name each over `max_written`.
     pub fn max_write(self, f: u32, g: u32) -> Halves
         ensures { result ≡ max_write self f g }
     {

@@ -9,192 +9,199 @@ use crate::words::{from1_to, is, value};
 use crate::{Draft, Expected, Stage};
 use runfile::CallRecord;
 
-const MOST_CALLS: usize = rules::CALLS as usize;
+pub(crate) const MOST_CALLS: usize = rules::CALLS as usize;
 
-const MOST_TURNS: usize = rules::TURNS as usize;
+pub(crate) const MOST_TURNS: usize = rules::TURNS as usize;
 
-fn keyword(d: Draft, there: bool, stage: Stage, expected: Expected) -> Result<Draft, Expected>
-    ensures { Drafts result (keyword (drafted d) there stage (expected_number expected)) }
-{
-    if there {
-        return Ok(Draft { stage, ..d });
+impl Draft {
+    fn keyword(self, there: bool, stage: Stage, expected: Expected) -> Result<Draft, Expected>
+        ensures { Drafts result (keyword (drafted self) there stage (expected_number expected)) }
+    {
+        if there {
+            return Ok(Draft { stage, ..self });
+        }
+        Err(expected)
     }
-    Err(expected)
-}
 
-#[tactic(auto, unfolding(crate::specs::Draft::took_start))]
-fn took_start(d: Draft, w: &[u8]) -> Result<Draft, Expected>
-    ensures { Drafts result (took_start (drafted d) (said w.now)) }
-{
-    let x = value(w)?;
-    Ok(Draft {
-        stage: Stage::AfterStart,
-        x,
-        ..d
-    })
-}
-
-#[tactic(auto, unfolding(crate::specs::Draft::took_count))]
-fn took_count(d: Draft, w: &[u8]) -> Result<Draft, Expected>
-    ensures { Drafts result (took_count (drafted d) (said w.now)) }
-{
-    let n = from1_to(rules::STATIONS, w, Expected::StationCount)?;
-    Ok(Draft {
-        stage: Stage::AfterCount,
-        n,
-        ..d
-    })
-}
-
-#[tactic(auto, unfolding(crate::specs::Draft::took_station))]
-fn took_station(d: Draft, w: &[u8]) -> Result<Draft, Expected>
-    ensures { Drafts result (took_station (drafted d) (said w.now)) }
-{
-    if is(w, b"turns") {
-        return Ok(Draft {
-            stage: Stage::Turn,
-            ..d
-        });
+    #[tactic(auto, unfolding(crate::specs::Draft::took_start))]
+    fn took_start(self, w: &[u8]) -> Result<Draft, Expected>
+        ensures { Drafts result (took_start (drafted self) (said w.now)) }
+    {
+        let x = value(w)?;
+        Ok(Draft {
+            stage: Stage::AfterStart,
+            x,
+            ..self
+        })
     }
-    let station = from1_to(d.n, w, Expected::StationOrTurns)?;
-    Ok(Draft {
-        stage: Stage::Kind,
-        call: CallRecord {
-            station,
-            ..CallRecord::default()
-        },
-        ..d
-    })
-}
 
-fn with_kind(d: Draft, kind: u32) -> Draft
-    ensures { drafted result ≡ with_call (drafted d) First d.call.station kind 0 0 }
-{
-    Draft {
-        stage: Stage::First,
-        call: CallRecord {
-            station: d.call.station,
-            kind,
-            ..CallRecord::default()
-        },
-        ..d
+    #[tactic(auto, unfolding(crate::specs::Draft::took_count))]
+    fn took_count(self, w: &[u8]) -> Result<Draft, Expected>
+        ensures { Drafts result (took_count (drafted self) (said w.now)) }
+    {
+        let n = from1_to(rules::STATIONS, w, Expected::StationCount)?;
+        Ok(Draft {
+            stage: Stage::AfterCount,
+            n,
+            ..self
+        })
     }
-}
 
-#[tactic(auto, unfolding(crate::specs::Draft::took_kind))]
-fn took_kind(d: Draft, w: &[u8]) -> Result<Draft, Expected>
-    ensures { Drafts result (took_kind (drafted d) (said w.now)) }
-{
-    if is(w, b"read") {
-        return Ok(Draft {
+    #[tactic(auto, unfolding(crate::specs::Draft::took_station))]
+    fn took_station(self, w: &[u8]) -> Result<Draft, Expected>
+        ensures { Drafts result (took_station (drafted self) (said w.now)) }
+    {
+        if is(w, b"turns") {
+            return Ok(Draft {
+                stage: Stage::Turn,
+                ..self
+            });
+        }
+        let station = from1_to(self.n, w, Expected::StationOrTurns)?;
+        Ok(Draft {
+            stage: Stage::Kind,
+            call: CallRecord {
+                station,
+                ..CallRecord::default()
+            },
+            ..self
+        })
+    }
+
+    // The call's kind is a number, as CallRecord has it.
+    fn with_kind(self, kind: u32) -> Draft
+        ensures { drafted result ≡ with_call (drafted self) First self.call.station kind 0 0 }
+    {
+        Draft {
+            stage: Stage::First,
+            call: CallRecord {
+                station: self.call.station,
+                kind,
+                ..CallRecord::default()
+            },
+            ..self
+        }
+    }
+
+    #[tactic(auto, unfolding(crate::specs::Draft::took_kind))]
+    fn took_kind(self, w: &[u8]) -> Result<Draft, Expected>
+        ensures { Drafts result (took_kind (drafted self) (said w.now)) }
+    {
+        if is(w, b"read") {
+            return Ok(Draft {
+                stage: Stage::AfterCall,
+                ..self
+            });
+        }
+        if is(w, b"set") {
+            return Ok(self.with_kind(1));
+        }
+        if is(w, b"swap") {
+            return Ok(self.with_kind(2));
+        }
+        Err(Expected::Kind)
+    }
+
+    #[tactic(auto, unfolding(crate::specs::Draft::took_first))]
+    fn took_first(self, w: &[u8]) -> Result<Draft, Expected>
+        ensures { Drafts result (took_first (drafted self) (said w.now)) }
+    {
+        let a = value(w)?;
+        Ok(Draft {
+            stage: Stage::Second,
+            call: CallRecord {
+                a,
+                b: 0,
+                ..self.call
+            },
+            ..self
+        })
+    }
+
+    #[tactic(auto, unfolding(crate::specs::Draft::took_second))]
+    fn took_second(self, w: &[u8]) -> Result<Draft, Expected>
+        ensures { Drafts result (took_second (drafted self) (said w.now)) }
+    {
+        let b = value(w)?;
+        Ok(Draft {
             stage: Stage::AfterCall,
-            ..d
-        });
+            call: CallRecord { b, ..self.call },
+            ..self
+        })
     }
-    if is(w, b"set") {
-        return Ok(with_kind(d, 1));
+
+    #[tactic(auto, unfolding(crate::specs::Draft::took_turn))]
+    fn took_turn(self, w: &[u8]) -> Result<Draft, Expected>
+        ensures { Drafts result (took_turn (drafted self) (said w.now)) }
+    {
+        if MOST_TURNS <= self.t {
+            return Err(Expected::FewerTurns);
+        }
+        let station = from1_to(self.n, w, Expected::Station)?;
+        Ok(Draft {
+            stage: Stage::Turn,
+            t: self.t + 1,
+            call: CallRecord {
+                station,
+                ..CallRecord::default()
+            },
+            ..self
+        })
     }
-    if is(w, b"swap") {
-        return Ok(with_kind(d, 2));
+
+    // A word more.
+    #[tactic(auto, unfolding(crate::specs::Draft::took_at))]
+    pub(crate) fn took(self, w: &[u8]) -> Result<Draft, Expected>
+        ensures { Drafts result (took_at self.stage (drafted self) (said w.now)) }
+    {
+        match self.stage {
+            Stage::Start => self.keyword(is(w, b"start"), Stage::StartValue, Expected::Start),
+            Stage::StartValue => self.took_start(w),
+            Stage::Stations => self.keyword(is(w, b"stations"), Stage::Count, Expected::Stations),
+            Stage::Count => self.took_count(w),
+            Stage::Call => self.took_station(w),
+            Stage::Kind => self.took_kind(w),
+            Stage::First => self.took_first(w),
+            Stage::Second => self.took_second(w),
+            Stage::Turn => self.took_turn(w),
+            Stage::AfterStart | Stage::AfterCount | Stage::AfterCall => Err(Expected::LineEnd),
+        }
     }
-    Err(Expected::Kind)
-}
 
-#[tactic(auto, unfolding(crate::specs::Draft::took_first))]
-fn took_first(d: Draft, w: &[u8]) -> Result<Draft, Expected>
-    ensures { Drafts result (took_first (drafted d) (said w.now)) }
-{
-    let a = value(w)?;
-    Ok(Draft {
-        stage: Stage::Second,
-        call: CallRecord { a, b: 0, ..d.call },
-        ..d
-    })
-}
-
-#[tactic(auto, unfolding(crate::specs::Draft::took_second))]
-fn took_second(d: Draft, w: &[u8]) -> Result<Draft, Expected>
-    ensures { Drafts result (took_second (drafted d) (said w.now)) }
-{
-    let b = value(w)?;
-    Ok(Draft {
-        stage: Stage::AfterCall,
-        call: CallRecord { b, ..d.call },
-        ..d
-    })
-}
-
-#[tactic(auto, unfolding(crate::specs::Draft::took_turn))]
-fn took_turn(d: Draft, w: &[u8]) -> Result<Draft, Expected>
-    ensures { Drafts result (took_turn (drafted d) (said w.now)) }
-{
-    if MOST_TURNS <= d.t {
-        return Err(Expected::FewerTurns);
-    }
-    let station = from1_to(d.n, w, Expected::Station)?;
-    Ok(Draft {
-        stage: Stage::Turn,
-        t: d.t + 1,
-        call: CallRecord {
-            station,
-            ..CallRecord::default()
-        },
-        ..d
-    })
-}
-
-// A word more.
-#[tactic(auto, unfolding(crate::specs::Draft::took_at))]
-pub(crate) fn took(d: Draft, w: &[u8]) -> Result<Draft, Expected>
-    ensures { Drafts result (took_at d.stage (drafted d) (said w.now)) }
-{
-    match d.stage {
-        Stage::Start => keyword(d, is(w, b"start"), Stage::StartValue, Expected::Start),
-        Stage::StartValue => took_start(d, w),
-        Stage::Stations => keyword(d, is(w, b"stations"), Stage::Count, Expected::Stations),
-        Stage::Count => took_count(d, w),
-        Stage::Call => took_station(d, w),
-        Stage::Kind => took_kind(d, w),
-        Stage::First => took_first(d, w),
-        Stage::Second => took_second(d, w),
-        Stage::Turn => took_turn(d, w),
-        Stage::AfterStart | Stage::AfterCount | Stage::AfterCall => Err(Expected::LineEnd),
-    }
-}
-
-#[tactic(auto, unfolding(crate::specs::Draft::made_call))]
-fn made_call(d: Draft) -> Result<Draft, Expected>
-    ensures { Drafts result (made_call (drafted d)) }
-{
-    if MOST_CALLS <= d.q {
-        return Err(Expected::FewerCalls);
-    }
-    Ok(Draft {
-        stage: Stage::Call,
-        q: d.q + 1,
-        ..d
-    })
-}
-
-// The line ends.
-#[tactic(auto, unfolding(crate::specs::Draft::ended_at))]
-pub(crate) fn ended(d: Draft) -> Result<Draft, Expected>
-    ensures { Drafts result (ended_at d.stage (drafted d)) }
-{
-    match d.stage {
-        Stage::Start | Stage::Stations | Stage::Call | Stage::Turn => Ok(d),
-        Stage::StartValue | Stage::First | Stage::Second => Err(Expected::Value),
-        Stage::AfterStart => Ok(Draft {
-            stage: Stage::Stations,
-            ..d
-        }),
-        Stage::Count => Err(Expected::StationCount),
-        Stage::AfterCount => Ok(Draft {
+    #[tactic(auto, unfolding(crate::specs::Draft::made_call))]
+    fn made_call(self) -> Result<Draft, Expected>
+        ensures { Drafts result (made_call (drafted self)) }
+    {
+        if MOST_CALLS <= self.q {
+            return Err(Expected::FewerCalls);
+        }
+        Ok(Draft {
             stage: Stage::Call,
-            ..d
-        }),
-        Stage::Kind => Err(Expected::Kind),
-        Stage::AfterCall => made_call(d),
+            q: self.q + 1,
+            ..self
+        })
+    }
+
+    // The line ends.
+    #[tactic(auto, unfolding(crate::specs::Draft::ended_at))]
+    pub(crate) fn ended(self) -> Result<Draft, Expected>
+        ensures { Drafts result (ended_at self.stage (drafted self)) }
+    {
+        match self.stage {
+            Stage::Start | Stage::Stations | Stage::Call | Stage::Turn => Ok(self),
+            Stage::StartValue | Stage::First | Stage::Second => Err(Expected::Value),
+            Stage::AfterStart => Ok(Draft {
+                stage: Stage::Stations,
+                ..self
+            }),
+            Stage::Count => Err(Expected::StationCount),
+            Stage::AfterCount => Ok(Draft {
+                stage: Stage::Call,
+                ..self
+            }),
+            Stage::Kind => Err(Expected::Kind),
+            Stage::AfterCall => self.made_call(),
+        }
     }
 }
 

@@ -51,7 +51,8 @@ fn put_turn(page: &mut Page, t: usize, d: Draft)
     }
 }
 
-// What a draft has more than the one before it.
+// What a draft has more than the one before it. The two pages go side by side (tried: the check does not tie an array to a page
+// that a second struct holds).
 fn put_more(calls: &mut Page, moves: &mut Page, before: Draft, d: Draft)
     ensures { Filled calls.old calls.new (call_made (drafted before) (drafted d)) moves.old moves.new (turn_made (drafted before) (drafted d)) }
 {
@@ -59,7 +60,7 @@ fn put_more(calls: &mut Page, moves: &mut Page, before: Draft, d: Draft)
     put_turn(moves, before.t, d);
 }
 
-// The text to its end.
+// The text to its end, by its places: a word is a part of the text, which begins and ends at one.
 fn gathered(text: &[u8], calls: &mut Page, moves: &mut Page) -> Result<Scan, Complaint>
     ensures { GatheredTo text.now calls.old calls.new moves.old moves.new result }
 {

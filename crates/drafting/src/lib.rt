@@ -23,17 +23,17 @@ use runfile::CallRecord;
 // What was expected of a text that cannot be read; Room is a longer buffer.
 #[derive(Clone, Copy, PartialEq, Eq)]
 pub enum Expected {
-    Start,
-    Value,
-    LineEnd,
-    Stations,
-    StationCount,
-    StationOrTurns,
-    Kind,
-    Station,
-    FewerCalls,
-    FewerTurns,
-    Room,
+    Start = 1,
+    Value = 2,
+    LineEnd = 3,
+    Stations = 4,
+    StationCount = 5,
+    StationOrTurns = 6,
+    Kind = 7,
+    Station = 8,
+    FewerCalls = 9,
+    FewerTurns = 10,
+    Room = 14,
 }
 
 impl Expected {
@@ -41,19 +41,7 @@ impl Expected {
     pub fn number(self) -> u32
         ensures { result ≡ expected_number self }
     {
-        match self {
-            Expected::Start => 1,
-            Expected::Value => 2,
-            Expected::LineEnd => 3,
-            Expected::Stations => 4,
-            Expected::StationCount => 5,
-            Expected::StationOrTurns => 6,
-            Expected::Kind => 7,
-            Expected::Station => 8,
-            Expected::FewerCalls => 9,
-            Expected::FewerTurns => 10,
-            Expected::Room => 14,
-        }
+        self as u32
     }
 }
 

@@ -3,7 +3,6 @@ ghost use Rattle.std.specs.Prelude.{◌≡◌, ◌+◌, ◌<◌, ◌≤◌, List
 ghost use Rattle.drafting.specs.Held.{in_comment, scanned, Begun, Between, Drafts, Letters, Scans};
 ghost use Rattle.drafting.specs.Scan.{no_scan, word_ended, line_ended, is_blank, step};
 
-use crate::drafts::{ended, took};
 use crate::{Draft, Expected, Scan, Within};
 
 // Before the first byte.
@@ -24,7 +23,7 @@ fn word_ended(text: &[u8], s: Scan, i: usize) -> Result<Draft, Expected>
     ensures { Drafts result (word_ended (scanned text.now i s)) }
 {
     match s.within {
-        Within::Word(start) => took(s.draft, &text[start..i]),
+        Within::Word(start) => s.draft.took(&text[start..i]),
         Within::Blank | Within::Comment => Ok(s.draft),
     }
 }
@@ -35,8 +34,7 @@ pub(crate) fn line_ended(text: &[u8], s: Scan, i: usize) -> Result<Draft, Expect
     requires { (i ≤ length text.now) × Begun i s.within }
     ensures { Drafts result (line_ended (scanned text.now i s)) }
 {
-    let d = word_ended(text, s, i)?;
-    ended(d)
+    word_ended(text, s, i)?.ended()
 }
 
 // Between words of a line; a newline ends the line. A case of the probe has no lines, so what is blank there is another set.
@@ -76,7 +74,8 @@ fn in_word(s: Scan, i: usize) -> Scan
     }
 }
 
-// A byte more: the one at place i.
+// A byte more: the one at place i. The text, the scan and the place go side by side (tried: a struct of the three with ghost fields;
+// Begun goes by cases, and the check found no proof alone that a ghost field of it is a proposition).
 #[tactic(auto, using(crate::proofs::Steps::newline_refused, crate::proofs::Steps::in_a_comment, crate::proofs::Steps::by_mark, crate::proofs::Steps::by_blank, crate::proofs::Steps::by_letter))]
 pub(crate) fn step(text: &[u8], s: Scan, i: usize) -> Result<Scan, Expected>
     requires { (i < length text.now) × Begun i s.within }

@@ -36,7 +36,7 @@ pub(crate) fn from1_to(most: u32, word: &[u8], expected: Expected) -> Result<u32
     ensures { Numbered result (is_from1_to most (said word.now)) (number_from 0 word.now) (expected_number expected) }
 {
     match number(word) {
-        Some(x) if (0 < x) & (x <= most) => Ok(x),
+        Some(x) if 0 < x && x <= most => Ok(x),
         _ => Err(expected),
     }
 }

@@ -73,7 +73,8 @@ fn put_last(page: &mut Page, t: Trace)
     page.put(b'\n');
 }
 
-// The number at place i of the part by call that starts at a place of the row; 0 past the part's end, or the row's. (`probing` reads a row that has no parts.)
+// The number at place i of the part by call that starts at a place of the row; 0 past the part's end, or the row's. It takes every i,
+// since a call's number and a place of the list come from any row. (`probing` reads a row that has no parts, by a `cell` of its own.)
 fn cell(row: &[u32], start: usize, i: u32) -> u32
     requires { start ≤ row_places }
     ensures { result ≡ get_or (part row.now start by_call) i 0 }
@@ -102,7 +103,9 @@ fn line_of(table: &[u8], row: &[u32], place: u32, c: u32) -> Line
     }
 }
 
-// The whole sheet of a trace and its row, from the front of the buffer on.
+// The whole sheet of a trace and its row, from the front of the buffer on. It is told for every trace and row, so the list may be
+// longer than the row: the loop counts the trace's calls, and reads 0 past the row. Trace, table and row have no struct: only this
+// function, which is public as it is, and `has_room` of `sheet` take all three.
 pub fn put_sheet(out: &mut [u8], t: Trace, table: &[u8], row: &[u32]) -> usize
     ensures { Wrote out.old out.new 0 result (sheet_text t table.now (book_of t row.now)) }
 {

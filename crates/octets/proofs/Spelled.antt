@@ -1,11 +1,11 @@
--- The number that bytes spell: its two laws over the width, and a byte more from the right. Assumes nothing.
-use mathlib.Core.Path.{◌≡◌, refl, ◌∙◌, ap}
-use mathlib.Core.List.{List, [], ◌∷◌}
-use Prim.Native.Nat.{ℕ, zero, suc, ◌+◌, ◌*◌, ◌-◌, ◌/◌, ◌%◌, ◌^◌, ◌<◌, ◌≤◌}
+-- The number that bytes spell: its two laws over the width, and reading from the right. Assumes nothing.
+use mathlib.Core.Path.{◌≡◌, refl, ◌∙◌, sym, ap}
+use mathlib.Core.List.{List, [], ◌∷◌, ◌++◌, append_assoc, append-nil}
+use Prim.Native.Nat.{ℕ, zero, suc, ◌+◌, ◌*◌, ◌/◌, ◌%◌, ◌^◌, ◌<◌, ◌≤◌}
 use native.Mathlib.Omega.{arith}
 use native.Mathlib.Nat.{div-add-mod, mod-eq_of_lt, div-lt_iff_lt-mul, add-mul-mod_self_left, pow-suc, pow-le-pow_right, lt_of_lt_of_le}
-use lib.ListN.{length, get_or, take, drop, length-take, drop_of_length-le}
-use lib.Seq.{get_or-drop, get_or-take, drop-cons}
+use lib.ListN.{length, take, drop}
+use lib.Seq.{get_or-drop, drop-length, drop_at}
 use Rattle.octets.specs.Bytes.{bytes, spelled, AllBytes}
 use Rattle.octets.specs.Promise.{Inverse}
 
@@ -45,18 +45,20 @@ bytes_take (suc k) (b ∷ s) h (suc i) = bytes_take k s (λ j. h (suc j)) i
 pub fits_in : (k : ℕ) (s : List ℕ) → AllBytes s → length s ≤ k → spelled s < 256 ^ k
 fits_in k s h l = lt_of_lt_of_le (fits s h) (pow-le-pow_right {n = 256} (omega arith) {j = k} l)
 
--- what the first k bytes spell from place i on: nothing past the end, and a byte more from the right
-module _ (k : ℕ) (s : List ℕ) where
-  pub none_left : (i : ℕ) → length (take k s) ≤ i → spelled (drop i (take k s)) ≡ 0
-  unfolding spelled
-  none_left i h = rw (drop_of_length-le (take k s) h)
+-- read from the right: the bytes left are the first of l, and x is what the bytes behind them spell
+pub record Behind (l left : List ℕ) (x : ℕ) : Type 0 where
+  pub whole : left ++ drop (length left) l ≡ l
+  pub sum : x ≡ spelled (drop (length left) l)
 
-  pub one_more : (i : ℕ) → 0 < i → i ≤ k → i ≤ length s
-      → spelled (drop (i - 1) (take k s)) ≡ get_or s (i - 1) 0 + 256 * spelled (drop i (take k s))
-  unfolding spelled
-  one_more i z a b =
-      let e : suc (i - 1) ≡ i = omega arith in
-      let l : i - 1 < length (take k s) = simp length-take (omega arith) in
-      ap spelled (drop-cons (take k s) (i - 1) 0 l)
-      ∙ ap (λ j. get_or (take k s) (i - 1) 0 + 256 * spelled (drop j (take k s))) e
-      ∙ ap (λ b. b + 256 * spelled (drop i (take k s))) (get_or-take k s (i - 1) 0 (omega arith))
+-- all are left, or the last of those left is read
+pub none_behind : (l : List ℕ) → Behind l l 0
+unfolding spelled
+none_behind l = record { whole = rw drop-length (append-nil l); sum = rw drop-length refl }
+
+pub one_behind : (l left : List ℕ) (b x : ℕ) → Behind l (left ++ b ∷ []) x → Behind l left (b + 256 * x)
+unfolding spelled
+one_behind l left b x h =
+    let back = drop (length (left ++ b ∷ [])) l in
+    let w : left ++ b ∷ back ≡ l = sym (append_assoc left (b ∷ []) back) ∙ h.whole in
+    let d : drop (length left) l ≡ b ∷ back = ap (drop (length left)) (sym w) ∙ drop_at left (b ∷ back) (length left) refl in
+    record { whole = rw d w; sum = rw (d, h.sum) refl }

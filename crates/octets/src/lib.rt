@@ -5,7 +5,7 @@ ghost use Rattle.std.specs.Prelude.{◌≡◌, length, take};
 ghost use Rattle.octets.specs.Bytes.{bytes, spelled};
 ghost use Rattle.octets.specs.Promise.{Inverse};
 
-// Fills the part with the bytes of x, lowest first.
+// Fills the part with the bytes of x, lowest first. The part has any width; `to_le_bytes` has one, eight.
 pub fn store(out: &mut [u8], x: u64)
     ensures { out.new ≡ bytes (length out.old) x }
 {
@@ -28,8 +28,8 @@ pub fn number(part: &[u8]) -> u64
     ensures { result ≡ spelled (take 8 part.now) }
 {
     let mut x = 0;
-    for i in (0..part.len().min(8)).rev() {
-        x = u64::from(part[i]) + 256 * x;
+    for b in part[..part.len().min(8)].iter().rev() {
+        x = u64::from(*b) + 256 * x;
     }
     x
 }

@@ -19,7 +19,8 @@ fn put_word(out: &mut [u8], at: usize, x: u64)
     octets::store(&mut out[at..at + 8], x);
 }
 
-// The words of entries 1 to n.
+// The words of entries 1 to n. Array and n stay apart: a slice `&bench.a[1..=n]` was tried, and the proof didn't close, since `entry_words` counts by the whole array.
+// A place stays beside the buffer here and in `put_word`: `sets` is told by place, so that what is drawn adds up.
 #[tactic(auto, using(crate::proofs::Drawn::entry_more), unfolding(crate::specs::Picture::entry_words, crate::specs::Picture::in_bytes))]
 fn put_entries(out: &mut [u8], from: usize, entries: [Halves; 33], n: usize)
     requires { (n ≤ 32) × (from + 8 * n ≤ length out.old) }

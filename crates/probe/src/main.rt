@@ -33,7 +33,7 @@ impl Case {
     fn byte(&mut self, rt: &(impl Print + Eprint), b: u8) -> bool {
         let f = probing::fed(&mut self.row, &mut self.out, self.probe, b);
         self.probe = f.probe;
-        written(rt, &self.out, f.len) & probing::goes_on(f.probe.reading)
+        written(rt, &self.out, f.len) && probing::goes_on(f.probe.reading)
     }
 
     // The bytes of a piece of the input, as long as there is more to do.

@@ -13,20 +13,20 @@ const CASE_SIZE: usize = 538;
 fn is_blank(b: u8) -> bool
     ensures { result ≡ is_blank b }
 {
-    (b == b' ') | (b == b'\n')
+    matches!(b, b' ' | b'\n')
 }
 
 // Whether there is more to read of the case; not so where it can't be read.
 pub fn goes_on(s: Reading) -> bool
     ensures { result ≡ goes_on s }
 {
-    (s.filled < CASE_SIZE) & s.number.is_some()
+    s.filled < CASE_SIZE && s.number.is_some()
 }
 
 fn is_cut(s: Reading) -> bool
     ensures { result ≡ is_cut s }
 {
-    (0 < s.filled) & goes_on(s)
+    0 < s.filled && goes_on(s)
 }
 
 // A number goes to its place in the row, if the row has it.

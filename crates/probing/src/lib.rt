@@ -12,7 +12,7 @@ pub use feed::{closed, fed, goes_on};
 
 // How far a case is read: how many of its numbers are whole, whether a word has begun, and the number that the word is so far:
 // none where it has something else in it or is over 4,294,967,295. The flag stays beside the number, since `FedTo` speaks of
-// a number without a word too.
+// a number without a word too; and the row stays beside `filled`, since `FedTo` and the parameters of `fed` have the two apart.
 #[derive(Clone, Copy, PartialEq, Eq)]
 pub struct Reading {
     pub filled: usize,

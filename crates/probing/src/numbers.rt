@@ -1,6 +1,6 @@
 // A bench out of a row of numbers, docs/PROBE.md. A number past the row's end is 0.
-ghost use Rattle.std.specs.Prelude.{◌≡◌, ◌≤◌, get_or};
-ghost use Rattle.probing.specs.Numbers.{place_of, is_place, halves_from, claim_from, call_from, station_from, entries_from, stations_from, bench_of, places_to};
+ghost use Rattle.std.specs.Prelude.{◌≡◌, ◌≤◌, ◌+◌, get_or};
+ghost use Rattle.probing.specs.Numbers.{place_of, is_place, halves_from, claim_from, call_from, each, station_from, entries_from, stations_from, bench_of, places_to};
 
 use bench::Bench;
 use card::{Claim, Halves};
@@ -14,7 +14,8 @@ pub(crate) fn cell(row: &[u32], i: usize) -> u32
     row.get(i).copied().unwrap_or(0)
 }
 
-// The place of that number; at rest where it is no place's.
+// The place of that number; at rest where it is no place's. Test and place stay two functions, since `is_place` and `place_of` stand under
+// `NumbersSayBenches` and `case_text`, which know a bench of any row.
 #[tactic(auto, using(crate::proofs::Places::named))]
 fn place_of(x: u32) -> Place
     ensures { result ≡ place_of x }
@@ -29,36 +30,39 @@ fn is_place(x: u32) -> bool
     Place::try_from(x).is_ok()
 }
 
+// K numbers of the row, from number at on.
+fn cells<const K: usize>(row: &[u32], at: usize) -> [u32; K]
+    requires { at + K ≤ 1003 }
+    ensures { result ≡ each (λ i. get_or row.now (at + i) 0) K }
+{
+    array::from_fn(|i| cell(row, at + i))
+}
+
+#[tactic(auto, unfolding(crate::specs::Numbers::each))]
 fn halves_from(row: &[u32], at: usize) -> Halves
     requires { at ≤ 1000 }
     ensures { result ≡ halves_from row.now at }
 {
-    Halves {
-        first: cell(row, at),
-        second: cell(row, at + 1),
-    }
+    let [first, second] = cells::<2>(row, at);
+    Halves { first, second }
 }
 
+#[tactic(auto, unfolding(crate::specs::Numbers::each))]
 fn claim_from(row: &[u32], at: usize) -> Claim
     requires { at ≤ 1000 }
     ensures { result ≡ claim_from row.now at }
 {
-    Claim {
-        seq: cell(row, at),
-        pid: cell(row, at + 1),
-        c: cell(row, at + 2),
-    }
+    let [seq, pid, c] = cells::<3>(row, at);
+    Claim { seq, pid, c }
 }
 
+#[tactic(auto, unfolding(crate::specs::Numbers::each))]
 pub(crate) fn call_from(row: &[u32], at: usize) -> Call
     requires { at ≤ 1000 }
     ensures { result ≡ call_from row.now at }
 {
-    Call {
-        kind: cell(row, at),
-        a: cell(row, at + 1),
-        b: cell(row, at + 2),
-    }
+    let [kind, a, b] = cells::<3>(row, at);
+    Call { kind, a, b }
 }
 
 fn station_from(row: &[u32], at: usize) -> Station

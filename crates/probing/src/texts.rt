@@ -1,4 +1,5 @@
 // The text of a case, docs/PROBE.md, written to a page.
+// Four writers of a few texts keep an answer, `search (rules, then)`: an attribute's `using(script::proofs::Pages::then)` was tried, and the proofs didn't close.
 ghost use Rattle.std.specs.Prelude.{◌≡◌, [], ◌∷◌, ◌<◌, get_or};
 ghost use Rattle.script.specs.Page.{Writes};
 ghost use Rattle.card.specs.Register.{halves};
@@ -13,6 +14,7 @@ use method::{Answer, Station};
 use script::Page;
 
 // A space before each number.
+#[tactic(auto, using(script::proofs::Pages::blank), unfolding(crate::specs::Text::spaced))]
 fn put_numbers(page: &mut Page, numbers: &[u32])
     ensures { Writes page.old page.new (spaced numbers.now) }
 {
@@ -22,6 +24,7 @@ fn put_numbers(page: &mut Page, numbers: &[u32])
     }
 }
 
+// By index: `rows` tells the text by place, and a `zip` of the two has none, so that is no plainer.
 fn put_entries(page: &mut Page, a: &[Halves; 33], r: &[Halves; 33])
     ensures { Writes page.old page.new (spaced (rows (λ i. entry_numbers (get_or a.now i (halves 0 0)) (get_or r.now i (halves 0 0))) 33)) }
 {
@@ -80,6 +83,7 @@ fn hex_digit(d: u8) -> u8
     b'a' + (d - 10)
 }
 
+#[tactic(auto, using(script::proofs::Pages::blank), unfolding(crate::specs::Text::hexes))]
 fn put_hexes(page: &mut Page, bytes: &[u8])
     ensures { Writes page.old page.new (hexes bytes.now) }
 {

@@ -20,7 +20,7 @@ struct Movable {
     ghost ready: { Ready reach.station },
 }
 
-// What a set or a swap hands back.
+// What a set or a swap hands back. The truth is R's ret, 0 or 1, and the kind a number as in `Call`: so has the definition both.
 fn handed(kind: u32, truth: u32, read: u32) -> u32
     ensures { result ≡ handed kind truth read }
 {
@@ -61,6 +61,7 @@ fn bad_offer(offer: Call) -> bool
     3 < offer.kind || (offer.kind == 0 || offer.kind == 3) && (offer.a != 0 || offer.b != 0)
 }
 
+// Each move takes `mut self` and hands the new state back, as document 01 has it, also one that writes nothing by itself.
 impl Reach {
     // The largest count of a station.
     pub const COUNT: u32 = 65535;

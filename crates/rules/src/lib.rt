@@ -34,7 +34,7 @@ pub enum Reason {
 }
 
 impl Reason {
-    // N of document 01.
+    // N of document 01. Two reasons carry a place, so the numbers can't be the variants' own.
     pub fn number(self) -> u32
         ensures { result ≡ number_of self }
     {

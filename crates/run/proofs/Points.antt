@@ -64,6 +64,9 @@ module _ (row : List ℕ) (s : Tally) (j turn : ℕ) (f : RowFits row s) (inside
   pub small : c < by_call
   small = rw is_latest at (f.within j)
 
+  pub point_in : 3075 + c < length row
+  point_in = omega (arith, small, f.places)
+
   at_point : get_or (part_of row 3) c 0 ≡ get_or row (3075 + c) 0
   unfolding start_of size_of
   at_point = read row 3 c small
@@ -82,6 +85,9 @@ module _ (row : List ℕ) (s : Tally) (j turn : ℕ) (f : RowFits row s) (inside
     place =
         let l = long row 3 f.places (omega arith) in
         omega (arith, f.all, l, room (part_of row 3) c (omega (arith, l, small)) (at_point ∙ e))
+
+    pub list_in : 4100 + s.listed < length (set row (3075 + c) turn)
+    list_in = simp length-set (omega (arith, place, f.places))
 
     abbrev row' : List ℕ
     row' = set (set row (3075 + c) turn) (4100 + s.listed) c

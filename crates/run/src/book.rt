@@ -47,7 +47,7 @@ impl<'a> Ledger<'a> {
     {
         self.enter(saw.pid, turn);
         for j in 1..=n {
-            if (j != saw.pid) & (self.row[WAIT + j as usize] == saw.seq) {
+            if j != saw.pid && self.row[WAIT + j as usize] == saw.seq {
                 self.enter(j, turn);
             }
         }

@@ -10,15 +10,15 @@ ghost use Rattle.run.specs.Drive.{LinkedIn};
 use crate::parts::{HEAD, NEXT};
 use crate::{Errand, Operation};
 use card::Halves;
-use method::{Call, Station};
+use method::{Call, Place, Station};
 
 // What the turn of a station is for, which stands at t, has call next on offer and has made call latest last.
 // At rest with no call left it is for nothing: it is idle.
 pub(crate) fn errand(t: Station, turn: u32, station: u32, next: u32, latest: u32) -> Option<Errand>
     ensures { result ≡ errand_of t.place turn station next latest }
 {
-    let rests = t.place.number() == 0;
-    if rests & (next == 0) {
+    let rests = t.place == Place::Rest;
+    if rests && next == 0 {
         return None;
     }
     Some(Errand {
@@ -30,6 +30,7 @@ pub(crate) fn errand(t: Station, turn: u32, station: u32, next: u32, latest: u32
 }
 
 // The errand's call as an offer to a station at rest; none to a station in one.
+// A `Call` from a `CallRecord` is made here and by no `From`: neither type is this crate's.
 #[tactic(auto, unfolding(runfile::specs::Layout::call_of))]
 pub(crate) fn offered(table: &[u8], e: Errand) -> Call
     requires { e.rests ≡ true → 0 < e.call }
@@ -54,14 +55,14 @@ pub(crate) fn waiting(t: Station) -> u32
     requires { t.s ≤ 4294967292 }
     ensures { result ≡ waits t }
 {
-    if t.place.number() < 11 { 0 } else { t.s + 2 }
+    if t.place == Place::Rest { 0 } else { t.s + 2 }
 }
 
 // The operation of a station at t that did not end its call, on a bench of n stations: it found V as v, and made so many own turns.
 pub(crate) fn operation(t: Station, v: Halves, own: u32, n: u32) -> Operation
     ensures { result ≡ operation_of t v own n }
 {
-    let raises = (t.place.number() == 19) & (v.first < t.saw.seq);
+    let raises = t.place == Place::At19 && v.first < t.saw.seq;
     Operation {
         own,
         raise: raises.then_some(t.saw),

@@ -1,5 +1,6 @@
 // The run loop: it keeps its own bench in place, turns it, and keeps the book.
 // It assumes good turns and good calls. Its bench is sound by its type, so that no turn tests it.
+// The WAIT part is written in two places: document 01's `let .. else` has two ends, and each follows a change of the book.
 ghost use Rattle.run.specs.Drive.{Drivable, Driven};
 
 use crate::calls::{errand, offered, operation, waiting};

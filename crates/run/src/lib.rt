@@ -17,6 +17,7 @@ pub use parts::{BY_CALL, LAST, LIST, OWN, PLACES, POINT, RESULT};
 pub use tracing::traced;
 
 // The numbers of a run: the calls of its table, its turns, idle turns, calls begun, ended and listed, and V at its end.
+// The four counts of `Tally` stand flat in it: what `TracedTo` is made of (`trace_by`, `given_trace`) and `book_of` name them so.
 #[derive(Clone, Copy, PartialEq, Eq)]
 pub struct Trace {
     pub calls: usize,
@@ -39,6 +40,7 @@ pub struct Tally {
 }
 
 // The book of a run: the row that it is kept in, which is lent, and its counts.
+// That the two fit each other (`Fits`) is a clause of its methods and no ghost field: tried, it is asked at each write, and between two writes of `enter` it is false.
 #[derive(Drop)]
 pub(crate) struct Ledger<'a> {
     pub row: &'a mut [u32],
@@ -62,7 +64,7 @@ pub(crate) struct Operation {
     pub n: u32,
 }
 
-// What a turn that ended its call handed back.
+// What a turn that ended its call handed back: the fields of `Answer::Ended`. A variant's fields are no type of their own, and `finishes e f` takes one.
 #[derive(Clone, Copy)]
 pub(crate) struct Finish {
     pub result: u32,

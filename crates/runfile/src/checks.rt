@@ -13,13 +13,14 @@ const MOST_CALLS: usize = CALLS as usize;
 
 const MOST_TURNS: usize = TURNS as usize;
 
+// Whether a call's 12 bytes are bad. They are a slice, as the places of the table are: `[u8; 12]` would be no plainer, since each caller would turn its slice into one.
 #[tactic(auto, unfolding(crate::specs::Reading::bad_call))]
 fn bad_call(n: u32, s: &[u8]) -> bool
     requires { length s.now ≡ 12 }
     ensures { result ≡ bad_call n s.now }
 {
     let c = record_at(s);
-    let zero = field(s, 3, 1);
+    let zero = field(&s[3..4]);
     c.station == 0
         || n < c.station
         || 2 < c.kind
@@ -27,7 +28,8 @@ fn bad_call(n: u32, s: &[u8]) -> bool
         || (c.kind == 0 && (c.a != 0 || c.b != 0))
 }
 
-// The first bad call, from 0. Whole records are looked at.
+// The first bad call, from 0. Whole records are looked at. A loop: `chunks_exact(12).position(..)` was tried, and the fact about earlier calls did not close;
+// `(0..q).find(..)` was tried, and what it ensures did not close by itself, where the loop needs one line.
 fn first_call(n: u32, table: &[u8]) -> Option<usize>
     ensures { Tells (bad_call_at n table.now) (records table.now) result }
 {

@@ -27,6 +27,7 @@ pub struct Contents {
 }
 
 // A call of the table: kind 0 is read, 1 set, 2 swap. It stays a number, since the bytes of a call may say any (refusal 7), and `call_at` tells them.
+// It does not hold a `method::Call`: this room does not rest on `method`, and the specs' `call_of` is flat.
 #[derive(Clone, Copy, Default)]
 pub struct CallRecord {
     pub station: u32,

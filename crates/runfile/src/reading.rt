@@ -56,7 +56,7 @@ pub fn part(s: &[u8], at: usize, k: usize) -> &[u8]
     &rest[..k.min(rest.len())]
 }
 
-// The call table of a file, a part of it; empty for a refused one.
+// The call table of a file, a part of it; empty for a refused one. It and `turns` are two public functions, of one line each.
 pub fn table(file: &[u8]) -> &[u8]
     ensures { result.now ≡ table_of file.now }
 {

@@ -9,6 +9,7 @@ use crate::Trailer;
 use crate::checks::{limits, parts};
 use rules::Reason;
 
+// The trailer's bytes, into a slice, as `write` lends it: an array would be no plainer.
 fn put_trailer(out: &mut [u8], z: Trailer)
     requires { length out.old ≡ 16 }
     ensures { out.new ≡ trailer_bytes z }
@@ -57,7 +58,7 @@ fn writable(n: u32, table: &[u8], turns: &[u8], room: usize) -> Result<(), Reaso
 }
 
 // Writes the file of x, n, the call table and the turns to the front of the buffer, and tells its length; refused, it leaves the buffer as it was.
-// The four come one by one, as `stepbench_write` has them of C.
+// The four come one by one, as `stepbench_write` has them of C; a struct of them with methods was written, and its proof did not close.
 pub fn write(x: u32, n: u32, table: &[u8], turns: &[u8], out: &mut [u8]) -> Result<usize, Reason>
     ensures { Written x n table.now turns.now out.old (numbers result) out.new }
 {

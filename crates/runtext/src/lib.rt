@@ -12,6 +12,7 @@ pub use promises::{answer_is_settled, buffer_is_enough, output_is_settled, outpu
 pub use showing::output;
 
 // What is written of a file: the text or the line of the refusal, with how many of its bytes stand at the front of a lent buffer.
+// No `Result`: both are text that is written, and an `Err` of a length would say nothing.
 #[derive(Clone, Copy, PartialEq, Eq)]
 pub enum Outcome {
     Text(usize),

@@ -1,10 +1,12 @@
 // A run file as text.
-ghost use Rattle.std.specs.Prelude.{◌≡◌, ◌<◌, length};
+ghost use Rattle.std.specs.Prelude.{◌≡◌, cond, [], ◌∷◌, ◌++◌, ◌<◌, length};
 ghost use Rattle.script.specs.Wrote.{Wrote};
 ghost use Rattle.script.specs.Page.{Writes};
+ghost use Rattle.script.specs.Decimal.{decimal};
+ghost use Rattle.runtext.specs.Letters.{newline, space};
 ghost use Rattle.runfile.specs.Layout.{records};
 ghost use Rattle.rules.specs.Reason.{numbers};
-ghost use Rattle.runtext.specs.Text.{head_text, values_text, call_text, calls_text, row_ends, turn_text, rows_text, turns_text, text_of, PrintedTo};
+ghost use Rattle.runtext.specs.Text.{head_text, values_text, call_text, calls_text, row_ends, rows_text, turns_text, text_of, PrintedTo};
 
 use rules::Reason;
 use runfile::{CallRecord, call_at};
@@ -20,6 +22,7 @@ fn put_head(page: &mut Page, x: u32, n: u32)
     page.put(b'\n');
 }
 
+#[tactic(auto, using(script::proofs::Pages::blank), unfolding(crate::specs::Text::values_text))]
 fn put_values(page: &mut Page, c: CallRecord)
     ensures { Writes page.old page.new (values_text c) }
 {
@@ -41,6 +44,9 @@ fn put_call(page: &mut Page, c: CallRecord)
     page.put(b'\n');
 }
 
+// Calls go by number, from 1 on, and are counted from 0: `1..=` is no plainer, since the loop then ends in two ways, each with an answer
+// of its own, and keeps the lines of i - 1 calls.
+#[tactic(auto, using(script::proofs::Pages::blank), unfolding(crate::specs::Text::calls_text))]
 fn put_calls(page: &mut Page, table: &[u8])
     ensures { Writes page.old page.new (calls_text table.now (records table.now)) }
 {
@@ -57,26 +63,28 @@ fn row_ends(turns: &[u8], i: usize) -> bool
     (i + 1) % 20 == 0 || i + 1 == turns.len()
 }
 
-fn put_turn(page: &mut Page, turns: &[u8], i: usize)
-    requires { i < length turns.now }
-    ensures { Writes page.old page.new (turn_text turns.now i) }
+// A turn, which is a station, and what stands after it.
+fn put_turn(page: &mut Page, station: u8, ends: bool)
+    ensures { Writes page.old page.new (decimal station ++ (cond ends newline space ∷ [])) }
 {
-    page.decimal(u32::from(turns[i]));
-    if row_ends(turns, i) {
+    page.decimal(u32::from(station));
+    if ends {
         page.put(b'\n');
     } else {
         page.put(b' ');
     }
 }
 
+#[tactic(auto, using(script::proofs::Pages::blank), unfolding(crate::specs::Text::rows_text))]
 fn put_rows(page: &mut Page, turns: &[u8])
     ensures { Writes page.old page.new (rows_text turns.now (length turns.now)) }
 {
-    for i in 0..turns.len() {
-        put_turn(page, turns, i);
+    for (i, b) in turns.iter().enumerate() {
+        put_turn(page, *b, row_ends(turns, i));
     }
 }
 
+#[tactic(auto, using(script::proofs::Pages::blank), unfolding(crate::specs::Text::turns_text))]
 fn put_turns(page: &mut Page, turns: &[u8])
     ensures { Writes page.old page.new (turns_text turns.now) }
 {

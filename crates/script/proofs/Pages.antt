@@ -9,12 +9,8 @@ use Rattle.script.specs.Page.{Writes}
 use Rattle.script.proofs.Writes.{still, and_then, one_more}
 
 -- nothing written
-pub nothing : (p : Page) → length p.out.now ≤ last_place → p.at ≤ last_place → Writes p p []
-nothing p h g = record { same = refl; wrote = still p.out.now p.at h g }
-
--- the same, of any page: its place is one
 pub blank : (p : Page) → length p.out.now ≤ last_place → Writes p p []
-blank p h = nothing p h p.in_place
+blank p h = record { same = refl; wrote = still p.out.now p.at h p.in_place }
 
 -- one text, and then another
 pub then : {p q r : Page} {xs ys : List ℕ} → Writes p q xs → Writes q r ys → Writes p r (xs ++ ys)

@@ -1,6 +1,8 @@
 // Text appended to a page, which is a lent buffer with a place in it: a byte, a word, a decimal number, the word for a call's kind,
 // the line of a refusal. What has no place in the buffer is not written, but the page's place counts it, so a text is measured by
 // writing it to a buffer of one byte. Its module number: a number read from a text, a digit at a time.
+// A page, and no `Display`: the contracts say where each byte stands in a buffer that may be too short. What `write!` promises is the
+// bytes of a `String` only, and the project allows no heap.
 #![tactic(auto)]
 
 ghost use Rattle.std.specs.Prelude.{◌≡◌, [], ◌∷◌, ◌≤◌};
@@ -51,7 +53,8 @@ impl<'a> Page<'a> {
         }
     }
 
-    // A number in decimal, without leading zeros.
+    // A number in decimal, without leading zeros. The digits are made here, and not by the kit's `itoa`: the room's own `decimal` stands
+    // under every theorem of text, and `itoa` would want a lemma that the kit's is the same.
     pub fn decimal(&mut self, x: u32)
         ensures { Writes self.old self.new (decimal x) }
     {
@@ -80,7 +83,8 @@ impl<'a> Page<'a> {
         }
     }
 
-    // The line that tells a refusal and its K.
+    // The line that tells a refusal and its K. Both are numbers, and no reason of `rules`: the function is public, and its text is
+    // told for any two numbers.
     pub fn refused(&mut self, number: u32, k: u32)
         ensures { Writes self.old self.new (refused_text number k) }
     {
@@ -93,6 +97,7 @@ impl<'a> Page<'a> {
 }
 
 // The line that tells a refusal and its K, at the front of a lent buffer as far as that goes; how many of its bytes are there.
+// Both are numbers here too, as in `refused`.
 pub fn told_refusal(out: &mut [u8], number: u32, k: u32) -> usize
     ensures { OutputTo (refused_text number k) out.old result out.new }
 {

@@ -35,7 +35,7 @@ pub fn read_input(from: &mut impl Read, buf: &mut [u8]) -> Result<usize, Failed>
 {
     let len = read_full(from, buf);
     match from.read(&mut [0u8; 1]) {
-        Ok(more) if (len == buf.len()) | (more == 0) => Ok(len),
+        Ok(more) if len == buf.len() || more == 0 => Ok(len),
         _ => Err(Failed { len }),
     }
 }

@@ -1,5 +1,6 @@
+use borrow.Author.Rules.{rules}
 use Rattle.script.proofs.Pages.{then}
 use Rattle.lines.proofs.put_field.Goals as goal
 
 pub returns : goal.returns
-returns c = then c.decimal.ensures c.put.ensures
+returns c = search (rules, then)

@@ -2,6 +2,7 @@ use Rattle.script.proofs.Pages.{then}
 use Rattle.lines.specs.Lines.{line_text}
 use Rattle.lines.proofs.put_line.Goals as goal
 
+-- said step by step: `search (rules, then)`, which finds the last line, was tried and does not find the fields that are no number
 pub returns : goal.returns
 unfolding line_text
 returns c =

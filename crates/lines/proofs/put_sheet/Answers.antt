@@ -4,7 +4,7 @@ use native.Mathlib.Numerals.{add-one}
 use lib.ListN.{get_or}
 use lib.Seq.{get_or-take}
 use Rattle.std.proofs.Common.{rules}
-use Rattle.script.proofs.Pages.{then, nothing}
+use Rattle.script.proofs.Pages.{then, blank}
 use Rattle.run.specs.Row.{list_part, start_of, size_of, part_of}
 use Rattle.run.specs.Trace.{book_of}
 use Rattle.lines.specs.Lines.{lines_text, sheet_text}
@@ -12,7 +12,7 @@ use Rattle.lines.proofs.put_sheet.Goals as goal
 
 pub loop-i-init : goal.loop-i-init
 unfolding lines_text
-loop-i-init c = nothing _ (omega arith) (omega arith)
+loop-i-init c = blank _ (omega arith)
 
 -- the call of the row's list is the book's, and its line is one more
 pub loop-i-preserved : goal.loop-i-preserved

@@ -1,8 +1,7 @@
--- The loop keeps: x is what the first eight bytes spell from place i on.
-use mathlib.Core.Path.{◌≡◌}
-use lib.ListN.{drop, take}
-use Rattle.octets.specs.Bytes.{spelled}
+-- The loop keeps: x is what the bytes behind those left, of the first eight, spell.
+use lib.ListN.{take}
+use Rattle.octets.proofs.Spelled.{Behind}
 use Rattle.octets.proofs.number.Given as goal
 
-abbrev pub invariant-loop-i : goal.invariant-loop-i
-invariant-loop-i l = l.x ≡ spelled (drop l.i (take 8 l.part))
+abbrev pub invariant-loop-b : goal.invariant-loop-b
+invariant-loop-b l = Behind (take 8 l.part) l.b-iterator.iter.rest.now l.x

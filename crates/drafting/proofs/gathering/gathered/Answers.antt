@@ -1,7 +1,5 @@
 use borrow.Author.Rules.{rules}
 use Rattle.std.proofs.lemmas.Result.{err_from_is_err_and}
-use mathlib.Core.Path.{sym}
-use native.Mathlib.Omega.{arith}
 use Rattle.script.proofs.Pages.{blank}
 use Rattle.drafting.specs.Scan.{run, given}
 use Rattle.drafting.proofs.Fills.{with_line, one_more, refused_on}
@@ -9,9 +7,7 @@ use Rattle.drafting.proofs.gathering.gathered.Goals as goal
 
 pub loop-i-init : goal.loop-i-init
 unfolding run given
-loop-i-init c =
-    let f = c.fresh-s.ensures c.args.text.now in
-    record { reads = sym f.0; begun = f.1; rows = record { called = blank _ (omega arith); turned = blank _ (omega arith) } }
+loop-i-init c = let f = c.fresh-s.ensures c.args.text.now in search (rules, blank)
 
 pub returns-in_err-next : goal.returns-in_err-next
 returns-in_err-next c =

@@ -1,12 +1,8 @@
 use native.Mathlib.Omega.{arith}
-use Rattle.script.proofs.Pages.{blank, then}
+use Rattle.script.proofs.Pages.{then}
 use Rattle.probing.specs.Text.{hexes}
 use Rattle.probing.proofs.Spaced.{byte_more}
 use Rattle.probing.proofs.texts.put_hexes.Goals as goal
-
-pub loop-b-init : goal.loop-b-init
-unfolding hexes
-loop-b-init c = blank _ (omega arith)
 
 pub loop-b-preserved : goal.loop-b-preserved
 unfolding hexes

@@ -1,6 +1,5 @@
-use native.Mathlib.Omega.{arith}
-use borrow.Author.Tests.{eq-eqb, ne_eqb}
-use Rattle.script.proofs.Pages.{blank, then}
+use borrow.Author.Tests.{ne_eqb}
+use Rattle.script.proofs.Pages.{then}
 use Rattle.runtext.specs.Text.{values_text}
 use Rattle.runtext.proofs.printing.put_values.Goals as goal
 
@@ -8,7 +7,3 @@ pub returns-then-c-ne0 : goal.returns-then-c-ne0
 unfolding values_text
 returns-then-c-ne0 c =
     simp (ne_eqb _ _ c.if-c-ne0.true) (then (then (then c.put.ensures c.decimal.ensures) c.put-then-c-ne0.ensures) c.decimal-then-c-ne0.ensures)
-
-pub returns-else-c-ne0 : goal.returns-else-c-ne0
-unfolding values_text
-returns-else-c-ne0 c = simp (eq-eqb _ _ c.if-c-ne0.false) (blank _ (omega arith))
