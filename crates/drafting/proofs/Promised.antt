@@ -33,8 +33,12 @@ numbers_tell : NumbersTell
 numbers_tell = search rules
 
 pub answer_is_settled : ParseSettled
-unfolding ParseSettled
-answer_is_settled text out r s c d v w = let e = numbers_settled text out (parsed_numbers r) (parsed_numbers s) c d v w in (numbers_tell.answers r s e.0, e.1)
+answer_is_settled =
+    record {
+      by_numbers = numbers_settled;
+      answers =
+          λ text out r s c d v w. let e = numbers_settled text out (parsed_numbers r) (parsed_numbers s) c d v w in (numbers_tell.answers r s e.0, e.1);
+    }
 
 -- what the writer does with a run
 by_writer : (x n : ℕ) (table turns out : List ℕ) → Written x n table turns out (write_of n table turns (length out)) (out_of x n table turns out)

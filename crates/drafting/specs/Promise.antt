@@ -31,9 +31,10 @@ TextsTellGoodRuns =
 unfoldable pub ParseEnough : Type 0
 ParseEnough = (text : List ℕ) (room : ℕ) → longest ≤ room → (parse_of text room).expected ≡ 14 → ⊥
 
--- two answers with their buffers that the contract allows for one input are the same
-unfoldable pub ParseSettled : Type 0
-ParseSettled =
+-- two answers with their buffers that the contract allows for one input are the same: of any numbers, and of what the numbers are of
+pub record ParseSettled : Type 0 where
+  pub by_numbers : (text out : List ℕ) (a b : Parsed) (c d : List ℕ) → ParsedTo text out a c → ParsedTo text out b d → (a ≡ b) × (c ≡ d)
+  pub answers :
     (text out : List ℕ) (r s : Result ℕ Complaint) (c d : List ℕ) → ParsedTo text out (parsed_numbers r) c → ParsedTo text out (parsed_numbers s) d
     → (r ≡ s) × (c ≡ d)
 

@@ -16,7 +16,7 @@ pub fn store(out: &mut [u8], x: u64)
     }
 }
 
-// A byte as a wider number. The rooms above write `u32::from`; this stays, as it was promised.
+// A byte as a wider number.
 pub fn wide(b: u8) -> u32
     ensures { result ≡ b }
 {
@@ -29,7 +29,7 @@ pub fn number(part: &[u8]) -> u64
 {
     let mut x = 0;
     for b in part[..part.len().min(8)].iter().rev() {
-        x = u64::from(*b) + 256 * x;
+        x = u64::from(wide(*b)) + 256 * x;
     }
     x
 }

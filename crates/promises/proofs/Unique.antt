@@ -11,18 +11,21 @@ use Rattle.rules.specs.declared.Reason.{Reason}
 use Rattle.rules.proofs.Reasons.{numbers_tell}
 use Rattle.run.specs.declared.Trace.{Trace}
 use Rattle.run.specs.Drive.{run_of_file}
-use Rattle.run.specs.Trace.{trace_numbers, traced_on, TracedTo}
+use Rattle.run.specs.Trace.{TraceNumbers, trace_numbers, traced_on, TracedTo}
 use Rattle.run.proofs.Traces.{trace_tells}
 use Rattle.promises.specs.Unique.{Left, Unique, OneResult}
 
 -- of the run's trace, and the row that was lent for it
+by_trace_numbers : (file row : List ℕ) → Unique (Left TraceNumbers) (λ r. TracedTo file row r.result r.out)
+by_trace_numbers file row x y p q =
+    let e : x.result ≡ y.result = p.answered ∙ sym q.answered in
+    λ i. record { result = e i; out = (p.left ∙ ap (λ t. traced_on t (run_of_file file).book row) e ∙ sym q.left) i }
+
 by_trace : (file row : List ℕ) → Unique (Left (Result Trace Reason)) (λ r. TracedTo file row (trace_numbers r.result) r.out)
 by_trace file row x y p q =
-    let e : trace_numbers x.result ≡ trace_numbers y.result = p.answered ∙ sym q.answered in
-    λ i. record {
-      result = trace_tells x.result y.result e i;
-      out = (p.left ∙ ap (λ t. traced_on t (run_of_file file).book row) e ∙ sym q.left) i;
-    }
+    let numbered : Result Trace Reason → List ℕ → Left TraceNumbers = λ r out. record { result = trace_numbers r; out = out } in
+    let e : numbered x.result x.out ≡ numbered y.result y.out = by_trace_numbers file row (numbered x.result x.out) (numbered y.result y.out) p q in
+    λ i. record { result = trace_tells x.result y.result (ap (λ l. l.result) e) i; out = (e i).out }
 
 -- the place of a number; what no place has is taken for the last one
 place_with : ℕ → Place
@@ -53,6 +56,8 @@ pub one_result : OneResult
 one_result =
     record {
       place = by_number;
+      picture_numbers = λ w out x y p q i. record { result = (p.answered ∙ sym q.answered) i; out = (p.left ∙ sym q.left) i };
+      traced_numbers = by_trace_numbers;
       picture =
           λ w out x y p q i. record { result = numbers_tell.answers x.result y.result (p.answered ∙ sym q.answered) i; out = (p.left ∙ sym q.left) i };
       traced = by_trace;

@@ -16,9 +16,8 @@ pub(crate) fn ran(file: &[u8], row: &mut [u32], has: Contents) -> Trace
     requires { (row.old ≡ zero_row) × (read_numbers (Ok has) ≡ read_of file.now) }
     ensures { RanTo file.now result row.new }
 {
-    let calls = 12 * has.q;
-    let table = part(file, 0, calls);
-    let turns = part(file, calls, has.t);
+    let table = part(file, has.start, 12 * has.q);
+    let turns = part(file, has.middle, has.t);
     link(table, row);
     let bench = Bench::fresh(has.x, has.n).bench;
     let d = drive(SoundBench { bench }, table, turns, row);

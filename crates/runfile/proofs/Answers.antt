@@ -120,7 +120,7 @@ points_back f e =
 
 -- what an answer of these numbers holds, where it is not refused
 held : ReadAnswer → Contents
-held a = record { x = a.x; n = a.n; q = a.q; t = a.t }
+held a = record { x = a.x; n = a.n; q = a.q; t = a.t; start = a.start; middle = a.middle }
 
 pub reads_settled : ReadsSettled
 unfolding ReadsSettled held

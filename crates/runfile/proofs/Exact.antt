@@ -113,5 +113,8 @@ pub refused_exactly : RefusedExactly
 refused_exactly = record { search = searched; reader = reader; emptied = emptied; writer = writer }
 
 pub writer_settled : WriterSettled
-unfolding WriterSettled
-writer_settled x n table turns out r s after after' v w = (numbers_tell.answers r s (v.answered ∙ sym w.answered), v.left ∙ sym w.left)
+writer_settled =
+    record {
+      by_numbers = λ x n table turns out a b after after' v w. (v.answered ∙ sym w.answered, v.left ∙ sym w.left);
+      answers = λ x n table turns out r s after after' v w. (numbers_tell.answers r s (v.answered ∙ sym w.answered), v.left ∙ sym w.left);
+    }

@@ -104,11 +104,14 @@ pub record RefusedExactly : Type 0 where
   pub emptied : (f : List ℕ) → ((read_of f).refused ≡ 0 → ⊥) → Emptied f
   pub writer : (n : ℕ) (table turns : List ℕ) (room : ℕ) → Exactly (write_rows n table turns room) (write_of n table turns room).refused (write_of n table turns room).k n table turns
 
--- two answers with their buffers that the writer's contract allows for one input are the same
-unfoldable pub WriterSettled : Type 0
-WriterSettled =
-    (x n : ℕ) (table turns out : List ℕ) (r s : Result ℕ Reason) (after after' : List ℕ)
-    → Written x n table turns out (numbers r) after → Written x n table turns out (numbers s) after' → (r ≡ s) × (after ≡ after')
+-- two answers with their buffers that the writer's contract allows for one input are the same: of any numbers, and of what the numbers are of
+pub record WriterSettled : Type 0 where
+  pub by_numbers :
+      (x n : ℕ) (table turns out : List ℕ) (answer answer' : Numbers) (after after' : List ℕ)
+      → Written x n table turns out answer after → Written x n table turns out answer' after' → (answer ≡ answer') × (after ≡ after')
+  pub answers :
+      (x n : ℕ) (table turns out : List ℕ) (r s : Result ℕ Reason) (after after' : List ℕ)
+      → Written x n table turns out (numbers r) after → Written x n table turns out (numbers s) after' → (r ≡ s) × (after ≡ after')
 
 -- the numbers of the reader's answer tell the answer
 unfoldable pub ReadsSettled : Type 0

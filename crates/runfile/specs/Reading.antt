@@ -102,7 +102,7 @@ run_by z = record { refused = 0; k = 0; x = z.x; n = z.n; q = z.q; t = turn_coun
 
 -- the numbers of the reader's answer, a run or the reason why it is refused
 abbrev pub read_numbers : Result Contents Reason → ReadAnswer
-read_numbers (Ok r) = record { refused = 0; k = 0; x = r.x; n = r.n; q = r.q; t = r.t; start = 0; middle = 12 * r.q }
+read_numbers (Ok r) = record { refused = 0; k = 0; x = r.x; n = r.n; q = r.q; t = r.t; start = r.start; middle = r.middle }
 read_numbers (Err e) = no_run (number_of e) (k_of e)
 
 abbrev pub read_by : Trailer → Verdict → ReadAnswer

@@ -17,13 +17,15 @@ pub use promises::{
 pub use reading::{part, read, table, turns};
 pub use writing::write;
 
-// What a run file holds: x, n, and how many calls q and turns t.
+// What a run file holds: x, n, and how many calls q and turns t. The call table starts at start, the turns at middle.
 #[derive(Clone, Copy, PartialEq, Eq)]
 pub struct Contents {
     pub x: u32,
     pub n: u32,
     pub q: usize,
     pub t: usize,
+    pub start: usize,
+    pub middle: usize,
 }
 
 // A call of the table: kind 0 is read, 1 set, 2 swap. It stays a number, since the bytes of a call may say any (refusal 7), and `call_at` tells them.

@@ -40,11 +40,14 @@ pub fn read(file: &[u8]) -> Result<Contents, Reason>
     }
     let z = trailer_at(&file[len - 16..]);
     judged(file, z)?;
+    let q = z.q as usize;
     Ok(Contents {
         x: z.x,
         n: z.n,
-        q: z.q as usize,
+        q,
         t: z.second as usize,
+        start: 0,
+        middle: 12 * q,
     })
 }
 
@@ -61,7 +64,7 @@ pub fn table(file: &[u8]) -> &[u8]
     ensures { result.now ≡ table_of file.now }
 {
     match read(file) {
-        Ok(r) => part(file, 0, 12 * r.q),
+        Ok(r) => part(file, r.start, 12 * r.q),
         Err(_) => &file[..0],
     }
 }
@@ -71,7 +74,7 @@ pub fn turns(file: &[u8]) -> &[u8]
     ensures { result.now ≡ turns_of file.now }
 {
     match read(file) {
-        Ok(r) => part(file, 12 * r.q, r.t),
+        Ok(r) => part(file, r.middle, r.t),
         Err(_) => &file[..0],
     }
 }

@@ -22,6 +22,16 @@ fn put_trailer(out: &mut [u8], z: Trailer)
     octets::store(&mut out[12..16], u64::from(z.second));
 }
 
+// Copies from over to, of the same length. `copy_from_slice` would be plainer; it calls C's memmove, which a controller's archive does without.
+fn lay(to: &mut [u8], from: &[u8])
+    requires { length to.old ≡ length from.now }
+    ensures { to.new ≡ from.now }
+{
+    for (i, b) in from.iter().enumerate() {
+        to[i] = *b;
+    }
+}
+
 // Writes the whole file to the front of the buffer. Its length is bounded so that the trailer's numbers fit their fields.
 fn put_file(out: &mut [u8], x: u32, n: u32, table: &[u8], turns: &[u8])
     requires { (file_length table.now turns.now ≤ length out.old) × (file_length table.now turns.now ≤ 65536) }
@@ -38,8 +48,8 @@ fn put_file(out: &mut [u8], x: u32, n: u32, table: &[u8], turns: &[u8])
         first: (t + 12 * q) as u32,
         second: t as u32,
     };
-    out[..a].copy_from_slice(table);
-    out[a..a + t].copy_from_slice(turns);
+    lay(&mut out[..a], table);
+    lay(&mut out[a..a + t], turns);
     put_trailer(&mut out[a + t..a + t + 16], z);
 }
 

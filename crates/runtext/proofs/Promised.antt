@@ -12,8 +12,11 @@ use Rattle.runtext.specs.Promise.{AlwaysEnough, PrintSettled}
 use Rattle.runtext.proofs.Prints.{length-file-text}
 
 pub answer_is_settled : PrintSettled
-unfolding PrintSettled
-answer_is_settled file out r s c d v w = (numbers_tell.answers r s (v.answered ∙ sym w.answered), v.left ∙ sym w.left)
+answer_is_settled =
+    record {
+      by_numbers = λ file out a b c d v w. (v.answered ∙ sym w.answered, v.left ∙ sym w.left);
+      answers = λ file out r s c d v w. (numbers_tell.answers r s (v.answered ∙ sym w.answered), v.left ∙ sym w.left);
+    }
 
 pub buffer_is_enough : AlwaysEnough
 unfolding AlwaysEnough print_of

@@ -116,5 +116,8 @@ always_enough file room h enough =
     (λ b. rw b)
 
 pub settled : ReportSettled
-unfolding ReportSettled
-settled file out r s c d v w = (numbers_tell.answers r s (v.answered ∙ sym w.answered), v.left ∙ sym w.left)
+settled =
+    record {
+      by_numbers = λ file out a b c d v w. (v.answered ∙ sym w.answered, v.left ∙ sym w.left);
+      answers = λ file out r s c d v w. (numbers_tell.answers r s (v.answered ∙ sym w.answered), v.left ∙ sym w.left);
+    }

@@ -41,7 +41,8 @@ pub record ReportedTo (file out : List ℕ) (answer : Numbers) (after : List ℕ
 unfoldable pub AlwaysEnough : Type 0
 AlwaysEnough = (file : List ℕ) (room : ℕ) → AllBytes file → 40960 ≤ room → (report_of file room).refused ≡ (read_of file).refused
 
--- two answers with their buffers that the contract allows for one input are the same
-unfoldable pub ReportSettled : Type 0
-ReportSettled =
+-- two answers with their buffers that the contract allows for one input are the same: of any numbers, and of what the numbers are of
+pub record ReportSettled : Type 0 where
+  pub by_numbers : (file out : List ℕ) (a b : Numbers) (c d : List ℕ) → ReportedTo file out a c → ReportedTo file out b d → (a ≡ b) × (c ≡ d)
+  pub answers :
     (file out : List ℕ) (r s : Result ℕ Reason) (c d : List ℕ) → ReportedTo file out (numbers r) c → ReportedTo file out (numbers s) d → (r ≡ s) × (c ≡ d)

@@ -8,7 +8,7 @@ use Rattle.octets.proofs.Spelled.{Behind, one_behind, none_behind, bytes_drop, b
 use Rattle.octets.proofs.number.Goals as goal
 
 next : (c : goal.After-from) → Behind (take 8 c.args.part.now) c.next.new.self.iter.rest.now (c.from.result + 256 * c.loop-b.x)
-next c = rw c.from.ensures (one_behind (take 8 c.args.part.now) c.next.new.self.iter.rest.now c.in-Some.b.now c.loop-b.x (rw c.in-Some.ensures.steps at c.loop-b.invariant))
+next c = rw (c.from.ensures, c.wide.ensures) (one_behind (take 8 c.args.part.now) c.next.new.self.iter.rest.now c.in-Some.b.now c.loop-b.x (rw c.in-Some.ensures.steps at c.loop-b.invariant))
 
 next_fits : (c : goal.After-from) → c.from.result + 256 * c.loop-b.x < 2 ^ 64
 next_fits c =

@@ -27,21 +27,21 @@ module _ (file : List ℕ) (has : Contents) (q : read_numbers (Ok has) ≡ read_
   well = sym (ap (λ r. r.refused) q)
 
   -- the parts are those of the file
-  table : (bytes : List ℕ) → bytes ≡ part file 0 (12 * has.q) → bytes ≡ table_of file
+  table : (bytes : List ℕ) → bytes ≡ part file has.start (12 * has.q) → bytes ≡ table_of file
   table bytes e = e ∙ ap (λ (r : ReadAnswer). part file r.start (12 * r.q)) q
 
-  turns : (bytes : List ℕ) → bytes ≡ part file (12 * has.q) has.t → bytes ≡ turns_of file
+  turns : (bytes : List ℕ) → bytes ≡ part file has.middle has.t → bytes ≡ turns_of file
   turns bytes e = e ∙ ap (λ (r : ReadAnswer). part file r.middle r.t) q
 
   -- what was linked is the file's call table
-  linked : (bytes row : List ℕ) → bytes ≡ part file 0 (12 * has.q) → LinkedIn bytes row 0 → LinkedIn (table_of file) row 0
+  linked : (bytes row : List ℕ) → bytes ≡ part file has.start (12 * has.q) → LinkedIn bytes row 0 → LinkedIn (table_of file) row 0
   linked bytes row e l = rw (table bytes e) at l
 
   made : (m : Made) (row : List ℕ) → LinkedIn (table_of file) row 0 → m ≡ fresh_of has.x has.n → m.bench ≡ blank (read_of file).x (read_of file).n
   made m row l e = ap (λ (r : Made). r.bench) (e ∙ ap (λ (r : ReadAnswer). fresh_of r.x r.n) q ∙ is_fresh file row well l)
 
-pub overflow_mul-calls : goal.overflow_mul-calls
-overflow_mul-calls c =
+pub overflow_mul-has : goal.overflow_mul-has
+overflow_mul-has c =
     let i : Inside c.args.file.now (read_numbers (Ok c.args.has)) = rw c.requires.1 (inside c.args.file.now) in
     omega (arith, i.table)
 

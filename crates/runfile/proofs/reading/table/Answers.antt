@@ -1,4 +1,3 @@
--- The same answer stands for `table` and for `turns`: with the lemma named by `using` alone, the search did not find it.
 use native.Mathlib.Omega.{arith}
 use Rattle.runfile.proofs.Answers.{table_fits}
 use Rattle.runfile.proofs.reading.table.Goals as goal

@@ -16,8 +16,8 @@ returns c =
     let table = a.table.now in
     let turns = a.turns.now in
     let z = trailer a.x a.n (records table) (length turns) in
-    let p1 = text_first a.out.now c.copy_from_slice.new.self table c.copy_from_slice.ensures.after in
-    let p2 = text_put p1 c.copy_from_slice-2.new.self (length turns) (omega arith) turns refl c.copy_from_slice-2.ensures.after in
+    let p1 = text_first a.out.now c.lay.new.to table c.lay.ensures in
+    let p2 = text_put p1 c.lay-2.new.to (length turns) (omega arith) turns refl c.lay-2.ensures in
     let p3 = text_put p2 c.put_trailer.new.out 16 (omega arith) (trailer_bytes z) (length-trailer z) c.put_trailer.ensures in
     let l : length table + length turns + 16 ≡ file_length table turns = omega arith in
     p3.stands ∙ rw l (simp append_assoc)
