@@ -9,7 +9,7 @@ fn turned(out: &impl Print, err: &impl Print, text: &[u8]) {
         Ok(len) => standard::write_front(out, err, &file, len, lost),
         Err(complaint) => {
             let mut line = [0u8; 128];
-            let len = messages::complain(complaint, &mut line);
+            let len = messages::complain(complaint.line, complaint.expected.number(), &mut line);
             standard::write_front(err, err, &line, len, lost);
         }
     }
