@@ -14,7 +14,8 @@ fn main(rt: HostRuntime) {
     standard::write_front(
         &rt.stdout(),
         &rt.stderr(),
-        &text[..len],
+        &text,
+        len,
         b"report: writing failed\n",
     );
 }

@@ -40,9 +40,12 @@ pub fn read_input(from: &mut impl Read, buf: &mut [u8]) -> Result<usize, Failed>
     }
 }
 
-// Writes the bytes. Where that fails, the line lost goes to standard error.
-pub fn write_front(to: &impl Print, err: &impl Print, bytes: &[u8], lost: &[u8]) {
-    if to.write_all(bytes).is_err() {
+// Writes the front of a buffer. Where that fails, or the buffer is shorter, the line lost goes to standard error.
+pub fn write_front(to: &impl Print, err: &impl Print, buf: &[u8], len: usize, lost: &[u8]) {
+    if !buf
+        .get(..len)
+        .is_some_and(|bytes| to.write_all(bytes).is_ok())
+    {
         let _ = err.write_all(lost);
     }
 }
