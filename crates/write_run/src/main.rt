@@ -10,6 +10,7 @@ fn turned(out: &impl Print, err: &impl Print, text: &[u8]) {
         Err(complaint) => {
             let mut line = [0u8; 128];
             let len = messages::complain(complaint.line, complaint.expected.number(), &mut line);
+            prove!(len <= line.len());
             standard::write_front(err, err, &line, len, lost);
         }
     }
