@@ -1,5 +1,6 @@
 -- A case that is written out is read as it was written: digit by digit, number by number, to its whole row. Assumes nothing.
 use mathlib.Core.Path.{◌≡◌, refl, ◌∙◌, sym, ap}
+use mathlib.Core.Bool.{Bool, true, false}
 use mathlib.Core.List.{List, [], ◌∷◌, ◌++◌, append_assoc, append-nil}
 use Prim.Native.Nat.{ℕ, suc, ◌+◌, ◌*◌, ◌-◌, ◌/◌, ◌%◌, ◌<◌, ◌≤◌}
 use native.Mathlib.Omega.{arith}
@@ -10,8 +11,7 @@ use lib.ListN.{length, get_or, set, drop, drop_of_length-le, replicate, length-r
 use lib.Seq.{sets}
 use Rattle.rules.proofs.Facts.{and_both}
 use Rattle.octets.proofs.Buffers.{in_front}
-use Rattle.std.specs.Prelude.{Bool, false, true, Some, is_some}
-use Rattle.script.specs.Number.{no_number, number_more}
+use Rattle.script.specs.Number.{no_number}
 use Rattle.script.specs.Decimal.{digit, decimal}
 use Rattle.script.proofs.Decimals.{by_digits}
 use Rattle.probing.specs.declared.Reading.{Reading}
@@ -39,49 +39,45 @@ module _ (k : ℕ) (s s' : Reading) (row row' : List ℕ) (b : ℕ) (g : goes_on
   byte = record { on = λ rest. rw (g, e, f) }
 
   -- that leaves the case as yet not whole
-  quiet : s'.filled < case_size → is_some s'.number ≡ true → Goes (probe k s) row (b ∷ []) [] (probe k s') row'
+  quiet : s'.filled < case_size → s'.number < no_number → Goes (probe k s) row (b ∷ []) [] (probe k s') row'
   unfolding text_at next_at
-  quiet h n = rw (lt-ltb s'.filled case_size h, n) at byte
+  quiet h n = rw (lt-ltb s'.filled case_size h, lt-ltb s'.number no_number n) at byte
 
-below : (s : Reading) → s.filled < case_size → is_some s.number ≡ true → goes_on s ≡ true
-below s h n = and_both (lt-ltb s.filled case_size h) n
-
--- a digit more of a number
-more : (m d : ℕ) → d < 10 → 10 * m + d < no_number → number_more (Some m) (digit d) ≡ Some (10 * m + d)
-more m d i l =
-    let x : 48 + d - 48 ≡ d = omega arith in
-    rw (le-leb 48 (48 + d) (omega arith), le-leb (48 + d) 57 (omega arith), lt-ltb m no_number (omega arith), x, lt-ltb (10 * m + d) no_number l)
+below : (s : Reading) → s.filled < case_size → s.number < no_number → goes_on s ≡ true
+below s h n = and_both (lt-ltb s.filled case_size h) (lt-ltb s.number no_number n)
 
 module _ (k f : ℕ) (row : List ℕ) (h : f < case_size) where
   digit_goes : (w : Bool) (m d : ℕ) → d < 10 → 10 * m + d < no_number
-      → Goes (probe k (reading f w (Some m))) row (digit d ∷ []) [] (probe k (reading f true (Some (10 * m + d)))) row
+      → Goes (probe k (reading f w m)) row (digit d ∷ []) [] (probe k (reading f true (10 * m + d))) row
   unfolding step stored
   digit_goes w m d i l =
+      let n : m < no_number = omega arith in
+      let x : 48 + d - 48 ≡ d = omega arith in
       let a = ne_eqb (48 + d) 32 (λ e. omega arith) in
       let b = ne_eqb (48 + d) 10 (λ e. omega arith) in
-      quiet k (reading f w (Some m)) (reading f true (Some (10 * m + d))) row row (digit d) (below (reading f w (Some m)) h refl)
-      (rw (a, b, more m d i l)) (rw (a, b)) h refl
+      quiet k (reading f w m) (reading f true (10 * m + d)) row row (digit d) (below (reading f w m) h n)
+      (rw (a, b, le-leb 48 (48 + d) (omega arith), le-leb (48 + d) 57 (omega arith), lt-ltb m no_number n, x)) (rw (a, b)) h l
 
-  number_goes : (v : ℕ) → v < no_number → Goes (probe k (reading f false (Some 0))) row (decimal v) [] (probe k (reading f true (Some v))) row
+  number_goes : (v : ℕ) → v < no_number → Goes (probe k (reading f false 0)) row (decimal v) [] (probe k (reading f true v)) row
   number_goes =
-      by_digits (λ v l. v < no_number → Goes (probe k (reading f false (Some 0))) row l [] (probe k (reading f true (Some v))) row)
+      by_digits (λ v l. v < no_number → Goes (probe k (reading f false 0)) row l [] (probe k (reading f true v)) row)
       (λ v i n. let e : 10 * 0 + v ≡ v = omega arith in rw e at (digit_goes false 0 v i (omega arith)))
       (λ v i p n.
       let e : 10 * (v / 10) + v % 10 ≡ v = omega arith in
       rw e at (both (p (omega arith)) (digit_goes true (v / 10) (v % 10) (omega arith) (omega arith))))
 
 -- a number that is whole, before the last
-next_number : (k f v : ℕ) (row : List ℕ) (b : ℕ) → is_blank b ≡ true → f + 1 < case_size
-    → Goes (probe k (reading f true (Some v))) row (b ∷ []) [] (probe k (reading (f + 1) false (Some 0))) (set row f v)
+next_number : (k f v : ℕ) (row : List ℕ) (b : ℕ) → is_blank b ≡ true → f + 1 < case_size → v < no_number
+    → Goes (probe k (reading f true v)) row (b ∷ []) [] (probe k (reading (f + 1) false 0)) (set row f v)
 unfolding step stored
-next_number k f v row b z h =
-    quiet k (reading f true (Some v)) (reading (f + 1) false (Some 0)) row (set row f v) b (below (reading f true (Some v)) (omega arith) refl) (rw z) (rw z) h refl
+next_number k f v row b z h n =
+    quiet k (reading f true v) (reading (f + 1) false 0) row (set row f v) b (below (reading f true v) (omega arith) n) (rw z) (rw z) h (omega arith)
 
 -- the last
-last_number : (k v : ℕ) (row xs : List ℕ) → set row 537 v ≡ xs → places_to xs 33 ≡ true
-    → Goes (probe k (reading 537 true (Some v))) row newline (case_text xs) (probe (k_more k) no_reading) xs
+last_number : (k v : ℕ) (row xs : List ℕ) → v < no_number → set row 537 v ≡ xs → places_to xs 33 ≡ true
+    → Goes (probe k (reading 537 true v)) row newline (case_text xs) (probe (k_more k) no_reading) xs
 unfolding step stored text_at next_at
-last_number k v row xs e g = rw g at (byte k (reading 537 true (Some v)) (reading 538 false (Some 0)) row xs 10 (below (reading 537 true (Some v)) (omega arith) refl) refl e)
+last_number k v row xs n e g = rw g at (byte k (reading 537 true v) (reading 538 false 0) row xs 10 (below (reading 537 true v) (omega arith) n) refl e)
 
 -- where the word so far is v: the last number of those that follow, and the row when it is reached
 abbrev last_of : ℕ → List ℕ → ℕ
@@ -92,20 +88,24 @@ abbrev kept : List ℕ → ℕ → ℕ → List ℕ → List ℕ
 kept row f v [] = row
 kept row f v (z ∷ zs) = kept (set row f v) (f + 1) z zs
 
-numbers_go : (k f v : ℕ) (row zs : List ℕ) → f + length zs < case_size → ((i : ℕ) → get_or zs i 0 < no_number)
-    → Goes (probe k (reading f true (Some v))) row (spaced zs) [] (probe k (reading (f + length zs) true (Some (last_of v zs)))) (kept row f v zs)
+numbers_go : (k f v : ℕ) (row zs : List ℕ) → f + length zs < case_size → v < no_number → ((i : ℕ) → get_or zs i 0 < no_number)
+    → Goes (probe k (reading f true v)) row (spaced zs) [] (probe k (reading (f + length zs) true (last_of v zs))) (kept row f v zs)
 unfolding spaced
-numbers_go k f v row [] h b = rw add-zero (record { on = λ rest. refl })
-numbers_go k f v row (z ∷ zs) h b =
+numbers_go k f v row [] h n b = rw add-zero (record { on = λ rest. refl })
+numbers_go k f v row (z ∷ zs) h n b =
     let e : f + suc (length zs) ≡ f + 1 + length zs = omega arith in
-    rw e (both (both (next_number k f v row 32 refl (omega arith)) (number_goes k (f + 1) (set row f v) (omega arith) z (b 0)))
-    (numbers_go k (f + 1) z (set row f v) zs (omega arith) (λ i. b (suc i))))
+    rw e (both (both (next_number k f v row 32 refl (omega arith) n) (number_goes k (f + 1) (set row f v) (omega arith) z (b 0)))
+    (numbers_go k (f + 1) z (set row f v) zs (omega arith) (b 0) (λ i. b (suc i))))
 
 all_kept_lem : (f v : ℕ) (row zs : List ℕ) → set (kept row f v zs) (f + length zs) (last_of v zs) ≡ sets row f (v ∷ zs)
 all_kept_lem f v row [] = rw add-zero
 all_kept_lem f v row (z ∷ zs) =
     let e : f + suc (length zs) ≡ f + 1 + length zs = omega arith in
     rw (e, all_kept_lem (f + 1) z (set row f v) zs, add-one)
+
+last_below : (v : ℕ) (zs : List ℕ) → v < no_number → ((i : ℕ) → get_or zs i 0 < no_number) → last_of v zs < no_number
+last_below v [] n b = n
+last_below v (z ∷ zs) n b = last_below z zs (b 0) (λ i. b (suc i))
 
 one_read : (k : ℕ) (row xs rest : List ℕ) → length row ≡ case_size → GoodCase xs
     → output_from (probe k no_reading) row (in_line xs ++ newline ++ rest) ≡ case_text xs ++ output_from (probe (k_more k) no_reading) xs rest
@@ -120,10 +120,10 @@ one_read k row (x ∷ zs) rest l g =
     ap (λ i. set (kept row 0 x zs) i (last_of x zs)) (sym e) ∙ all_kept_lem 0 x row zs ∙ in_front row (x ∷ zs) case_size m (omega arith)
     ∙ ap (λ y. (x ∷ zs) ++ y) d ∙ append-nil (x ∷ zs)
     in
-    let s : Goes (probe k no_reading) row (in_line (x ∷ zs)) [] (probe k (reading 537 true (Some (last_of x zs)))) (kept row 0 x zs) =
-    rw e at (both (number_goes k 0 row (omega arith) x (b 0)) (numbers_go k 0 x row zs (omega arith) (λ i. b (suc i))))
+    let s : Goes (probe k no_reading) row (in_line (x ∷ zs)) [] (probe k (reading 537 true (last_of x zs))) (kept row 0 x zs) =
+    rw e at (both (number_goes k 0 row (omega arith) x (b 0)) (numbers_go k 0 x row zs (omega arith) (b 0) (λ i. b (suc i))))
     in
-    let t = last_number k (last_of x zs) (kept row 0 x zs) (x ∷ zs) c g.places in
+    let t = last_number k (last_of x zs) (kept row 0 x zs) (x ∷ zs) (last_below x zs (b 0) (λ i. b (suc i))) c g.places in
     (both s t).on rest
 
 -- between two cases the input may end

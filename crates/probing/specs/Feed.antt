@@ -1,7 +1,7 @@
 -- docs/PROBE.md: the input byte by byte, what is written after each, and what is written in all. Assumes nothing.
-use Rattle.std.specs.Prelude.{◌≡◌, Bool, false, true, cond, ◌&&◌, ◌||◌, List, [], ◌∷◌, ◌++◌, ℕ, ◌+◌, eqb, ltb, set, replicate, Option, Some, None, is_some}
+use Rattle.std.specs.Prelude.{◌≡◌, Bool, false, true, cond, ◌&&◌, ◌||◌, List, [], ◌∷◌, ◌++◌, ℕ, ◌+◌, eqb, ltb, set, replicate}
 use Rattle.script.specs.Wrote.{Wrote}
-use Rattle.script.specs.Number.{number_more}
+use Rattle.script.specs.Number.{no_number, digit_more}
 use Rattle.probing.specs.declared.Reading.{Reading}
 use Rattle.probing.specs.declared.Probe.{Probe}
 use Rattle.probing.specs.declared.Said.{Said}
@@ -12,12 +12,12 @@ use Rattle.probing.specs.Text.{case_text, fault_text, cut_words, number_words, p
 abbrev pub case_size : ℕ
 case_size = 538
 
--- how many of its numbers are whole, whether a word has begun, and the number that the word is so far, if it is one
-abbrev pub reading : ℕ → Bool → Option ℕ → Reading
+-- how many of its numbers are whole, whether a word has begun, and the number that the word is so far
+abbrev pub reading : ℕ → Bool → ℕ → Reading
 reading filled word number = record { filled = filled; word = word; number = number }
 
 abbrev pub no_reading : Reading
-no_reading = reading 0 false (Some 0)
+no_reading = reading 0 false 0
 
 abbrev pub probe : ℕ → Reading → Probe
 probe k s = record { k = k; reading = s }
@@ -28,15 +28,11 @@ is_blank b = eqb b 32 || eqb b 10
 
 -- a byte more: a blank ends the word, if there is one, and any other byte belongs to it
 unfoldable pub step : Reading → ℕ → Reading
-step s b = cond (is_blank b) (cond s.word (reading (s.filled + 1) false (Some 0)) s) (reading s.filled true (number_more s.number b))
+step s b = cond (is_blank b) (cond s.word (reading (s.filled + 1) false 0) s) (reading s.filled true (digit_more s.number b))
 
 -- the row: a word that ends leaves its number there
-abbrev pub left : ℕ → Option ℕ → List ℕ → List ℕ
-left at None row = row
-left at (Some n) row = set row at n
-
 unfoldable pub stored : Reading → ℕ → List ℕ → List ℕ
-stored s b row = cond (is_blank b) (cond s.word (left s.filled s.number row) row) row
+stored s b row = cond (is_blank b) (cond s.word (set row s.filled s.number) row) row
 
 -- cases are counted from 1, as far as 32 bits go
 abbrev pub k_more : ℕ → ℕ
@@ -45,18 +41,18 @@ k_more k = cond (ltb k 4294967295) (k + 1) k
 -- what is written of case k as far as it is read: nothing before it is whole
 unfoldable pub text_at : ℕ → Reading → List ℕ → List ℕ
 text_at k s row =
-    cond (is_some s.number)
+    cond (ltb s.number no_number)
     (cond (ltb s.filled case_size) [] (cond (places_to row 33) (case_text row) (fault_text k place_words))) (fault_text k number_words)
 
 -- a case that is written is followed by the next; one that can't be read stays as it is
 unfoldable pub next_at : ℕ → Reading → List ℕ → Probe
 next_at k s row =
-    cond (is_some s.number) (cond (ltb s.filled case_size) (probe k s) (cond (places_to row 33) (probe (k_more k) no_reading) (probe k s)))
+    cond (ltb s.number no_number) (cond (ltb s.filled case_size) (probe k s) (cond (places_to row 33) (probe (k_more k) no_reading) (probe k s)))
     (probe k s)
 
 -- nothing is read past a case that can't be
 abbrev pub goes_on : Reading → Bool
-goes_on s = ltb s.filled case_size && is_some s.number
+goes_on s = ltb s.filled case_size && ltb s.number no_number
 
 unfoldable pub fed_probe : Probe → List ℕ → ℕ → Probe
 fed_probe p row b = cond (goes_on p.reading) (next_at p.k (step p.reading b) (stored p.reading b row)) p

@@ -1,14 +1,17 @@
 // The input byte by byte: words, numbers, whole cases.
-ghost use Rattle.std.specs.Prelude.{◌≡◌, ◌<◌, set};
+ghost use Rattle.std.specs.Prelude.{◌≡◌, ◌<◌, cond, ltb, set};
+ghost use Rattle.script.specs.Number.{no_number};
 ghost use Rattle.script.specs.Page.{Writes};
 ghost use Rattle.probing.specs.Feed.{case_size, no_reading, probe, is_blank, goes_on, is_cut, step, stored, k_more, text_at, next_at, FedTo, ClosedTo};
 
 use crate::numbers::places_good;
 use crate::texts::{put_case, put_fault};
 use crate::{Probe, Reading, Said};
-use script::{Page, number_more};
+use script::Page;
 
 const CASE_SIZE: usize = 538;
+
+const NO_NUMBER: u64 = 4294967296;
 
 fn is_blank(b: u8) -> bool
     ensures { result ≡ is_blank b }
@@ -20,7 +23,7 @@ fn is_blank(b: u8) -> bool
 pub fn goes_on(s: Reading) -> bool
     ensures { result ≡ goes_on s }
 {
-    s.filled < CASE_SIZE && s.number.is_some()
+    s.filled < CASE_SIZE && s.number < NO_NUMBER
 }
 
 fn is_cut(s: Reading) -> bool
@@ -38,24 +41,30 @@ fn keep(row: &mut [u32], at: usize, x: u32)
     }
 }
 
-// A byte more of a case that goes on.
+// A byte more of a case that goes on; a word that is no number leaves none in the row.
+// The digit is read here and not by `script::number_more`, which has one none: `digit_more` keeps the number that goes over the limit.
 #[tactic(auto, unfolding(crate::specs::Feed::step, crate::specs::Feed::stored))]
 fn step(row: &mut [u32], s: Reading, b: u8) -> Reading
     requires { s.filled < case_size }
     ensures value { result ≡ step s b }
-    ensures row_after { row.new ≡ stored s b row.old }
+    ensures row_after { row.new ≡ cond (ltb s.number no_number) (stored s b row.old) row.old }
 {
     if !is_blank(b) {
+        let number = if b.is_ascii_digit() && s.number < NO_NUMBER {
+            10 * s.number + u64::from(b - b'0')
+        } else {
+            NO_NUMBER
+        };
         return Reading {
             word: true,
-            number: number_more(s.number, b),
+            number,
             ..s
         };
     }
     if !s.word {
         return s;
     }
-    if let Some(number) = s.number {
+    if let Ok(number) = u32::try_from(s.number) {
         keep(row, s.filled, number);
     }
     Reading {
@@ -79,7 +88,7 @@ fn took_up(page: &mut Page, row: &[u32], p: Probe) -> Probe
     ensures goes { result ≡ next_at p.k p.reading row.now }
     ensures written { Writes page.old page.new (text_at p.k p.reading row.now) }
 {
-    if p.reading.number.is_none() {
+    if NO_NUMBER <= p.reading.number {
         put_fault(page, p.k, b": number expected\n");
         return p;
     }

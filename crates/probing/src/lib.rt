@@ -10,14 +10,15 @@ mod texts;
 
 pub use feed::{closed, fed, goes_on};
 
-// How far a case is read: how many of its numbers are whole, whether a word has begun, and the number that the word is so far:
-// none where it has something else in it or is over 4,294,967,295. The flag stays beside the number, since `FedTo` speaks of
-// a number without a word too; and the row stays beside `filled`, since `FedTo` and the parameters of `fed` have the two apart.
+// How far a case is read: how many of its numbers are whole, whether a word has begun, and the number that the word is so far.
+// A number of 4,294,967,296 or more is none. It is no `Option`, since `FedTo` speaks of each such number: the probe comes back with it.
+// The flag stays beside the number, since `FedTo` speaks of a number without a word too; and the row stays beside `filled`, since
+// `FedTo` and the parameters of `fed` have the two apart.
 #[derive(Clone, Copy, PartialEq, Eq)]
 pub struct Reading {
     pub filled: usize,
     pub word: bool,
-    pub number: Option<u32>,
+    pub number: u64,
 }
 
 impl Reading {
@@ -25,7 +26,7 @@ impl Reading {
     pub const NONE: Reading = Reading {
         filled: 0,
         word: false,
-        number: Some(0),
+        number: 0,
     };
 }
 
