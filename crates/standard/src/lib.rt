@@ -2,7 +2,7 @@
 // What is read and written no contract can say; how many bytes of the buffer were read it does.
 #![tactic(auto)]
 
-ghost use Rattle.std.specs.Prelude.{◌≤◌, length, IfErr};
+ghost use Rattle.std.specs.Prelude.{◌≡◌, ◌≤◌, length, take, IfErr};
 ghost use Rattle.std.specs.Io.{ReadsAtMost};
 
 use std::io::Read;
@@ -31,7 +31,7 @@ fn read_full(from: &mut impl Read, buf: &mut [u8]) -> usize
 // How many bytes stand at the front of the buffer. One more read tells the end of the input from a read that failed.
 pub fn read_input(from: &mut impl Read, buf: &mut [u8]) -> Result<usize, Failed>
     ensures ok { ReadsAtMost result buf.new }
-    ensures err { IfErr result (λ f. f.len ≤ length buf.new) }
+    ensures err { IfErr result (λ f. (f.len ≤ length buf.new) × (f.len ≡ length (take f.len buf.new))) }
 {
     let len = read_full(from, buf);
     match from.read(&mut [0u8; 1]) {
