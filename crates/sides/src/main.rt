@@ -9,25 +9,36 @@ use card::{Claim, Halves};
 use method::{Answer, Call, Place, Station};
 use std::io;
 
-fn tell(rt: &impl Print, label: &str, answer: Answer) -> io::Result<()> {
-    match answer {
-        Answer::Idle => println!(rt; "{label}: idle"),
-        Answer::Going => println!(rt; "{label}: going"),
-        Answer::Ended { result, own } => println!(rt; "{label}: ended {result} {own}"),
-        Answer::Refused(n) => println!(rt; "{label}: refused {n}"),
+// The numbers at a line's end. A line is written in pieces, each as soon as it is known, so that as much of it is out as could be written.
+fn numbers(rt: &impl Print, xs: &[u32]) -> io::Result<()> {
+    for x in xs {
+        print!(rt; " {x}")?;
     }
+    println!(rt; "")
+}
+
+fn tell(rt: &impl Print, label: &str, answer: Answer) -> io::Result<()> {
+    print!(rt; "{label}")?;
+    match answer {
+        Answer::Idle => print!(rt; ": idle")?,
+        Answer::Going => print!(rt; ": going")?,
+        Answer::Ended { result, own } => {
+            print!(rt; ": ended")?;
+            return numbers(rt, &[result, own]);
+        }
+        Answer::Refused(n) => {
+            print!(rt; ": refused")?;
+            return numbers(rt, &[n]);
+        }
+    }
+    println!(rt; "")
 }
 
 fn made(rt: &impl Print, label: &str, n: u32) -> io::Result<()> {
     let m = Bench::fresh(7, n);
     let w = m.bench;
-    println!(rt;
-        "{label}: refused, n, V.val, sound {} {} {} {}",
-        m.refused,
-        w.n,
-        w.v.second,
-        u32::from(w.sound())
-    )
+    print!(rt; "{label}: refused, n, V.val, sound")?;
+    numbers(rt, &[m.refused, w.n, w.v.second, u32::from(w.sound())])
 }
 
 // A fresh bench of two stations that holds 7.
@@ -174,7 +185,8 @@ fn of_pid_0(rt: &impl Print) -> io::Result<()> {
     let x = at_18(0).turn(1, offer(3, 0, 0));
     tell(rt, "at 18 with saved pid 0", x.answer)?;
     let r = x.bench.r[0];
-    println!(rt; "R[0] after it: {} {}", r.first, r.second)
+    print!(rt; "R[0] after it:")?;
+    numbers(rt, &[r.first, r.second])
 }
 
 fn row(rt: &impl Print, bytes: &[u8]) -> io::Result<()> {
@@ -190,10 +202,14 @@ fn pictured(rt: &impl Print, label: &str, w: Bench, out: &mut [u8]) -> io::Resul
     if len < 16 {
         return Ok(());
     }
-    match picture::picture(w, &mut out[8..len - 8]) {
-        Ok(bytes) => println!(rt; "{label}: refused, bytes 0 {bytes}")?,
-        Err(reason) => println!(rt; "{label}: refused, bytes {} 0", reason.number())?,
-    }
+    let (refused, bytes) = match picture::picture(w, &mut out[8..len - 8]) {
+        Ok(bytes) => (0, bytes),
+        Err(reason) => (reason.number(), 0),
+    };
+    print!(rt; "{label}: refused, bytes")?;
+    print!(rt; " {refused}")?;
+    print!(rt; " {bytes}")?;
+    println!(rt; "")?;
     row(rt, out)
 }
 
