@@ -26,14 +26,15 @@ pub(crate) fn drive(mut w: SoundBench, table: &[u8], turns: &[u8], row: &mut [u3
         let v = w.bench.v;
         let x = w.turn(i, offered(table, e));
         let after = w.bench.stations[at];
+        let waits = waiting(after);
         let Answer::Ended { result, own } = x else {
             let o = operation(before, v, after.own, w.bench.n);
             book.not_ended(x, e, o);
-            book.row[WAIT + at] = waiting(after);
+            book.row[WAIT + at] = waits;
             continue;
         };
         book.finished(e, Finish { result, own });
-        book.row[WAIT + at] = waiting(after);
+        book.row[WAIT + at] = waits;
     }
     Drove {
         bench: w.bench,

@@ -48,8 +48,8 @@ not_ended-requires c =
       within _ _ _ _ _ _ _ _ k c.loop-k-test.true c.requires.good i c.from-i.ensures _ e _ _ _ c.offered.ensures c.turn-x.ensures _ c.operation-o.ensures,
     )
 
-pub waiting-requires : goal.waiting-requires
-waiting-requires c = s_small c.turn-x.new.self.bench c.from-i.result c.turn-x.new.self.is_sound (has_entry (goal.at.waiting-requires c).After-from-i)
+pub waiting-waits-requires : goal.waiting-waits-requires
+waiting-waits-requires c = s_small c.turn-x.new.self.bench c.from-i.result c.turn-x.new.self.is_sound (has_entry (goal.at.waiting-waits-requires c).After-from-i)
 
 pub loop-k-preserved-in_default-x : goal.loop-k-preserved-in_default-x
 loop-k-preserved-in_default-x c =
@@ -57,7 +57,7 @@ loop-k-preserved-in_default-x c =
       c.not_ended.ensures.same ∙ k.0,
       after_going _ _ _ _ _ _ _ _ k.1 c.loop-k-test.true c.requires.good c.from-i.result c.from-i.ensures _
           (the_errand (goal.at.loop-k-preserved-in_default-x c).In-Some)
-          _ _ _ c.offered.ensures c.turn-x.ensures _ _ _ _ c.in_default-x.not-Ended c.operation-o.ensures c.waiting.ensures c.not_ended.ensures.became,
+          _ _ _ c.offered.ensures c.turn-x.ensures _ _ _ _ c.in_default-x.not-Ended c.operation-o.ensures c.waiting-waits.ensures c.not_ended.ensures.became,
     )
 
 -- and one that ended it
@@ -66,17 +66,13 @@ finished-requires c =
     may_take _ _ _ _ _ _ _ _ c.loop-k.invariant.1 c.loop-k-test.true c.requires.good c.from-i.result c.from-i.ensures c.loop-k.book c.in-Some.e refl refl
     (the_errand (goal.at.finished-requires c).In-Some)
 
-pub waiting-requires-in-loop-k : goal.waiting-requires-in-loop-k
-waiting-requires-in-loop-k c =
-    s_small c.turn-x.new.self.bench c.from-i.result c.turn-x.new.self.is_sound (has_entry (goal.at.waiting-requires-in-loop-k c).After-from-i)
-
 pub loop-k-preserved : goal.loop-k-preserved
 loop-k-preserved c =
     let k = c.loop-k.invariant in (
       c.finished.ensures.same ∙ k.0,
       after_end _ _ _ _ _ _ _ _ k.1 c.loop-k-test.true c.requires.good c.from-i.result c.from-i.ensures _
           (the_errand (goal.at.loop-k-preserved c).In-Some)
-          _ _ _ c.offered.ensures c.turn-x.ensures _ _ _ _ _ c.in-Ended.is c.waiting-in-loop-k.ensures c.finished.ensures.became,
+          _ _ _ c.offered.ensures c.turn-x.ensures _ _ _ _ _ c.in-Ended.is c.waiting-waits.ensures c.finished.ensures.became,
     )
 
 pub returns : goal.returns
