@@ -35,8 +35,8 @@ ParseEnough = (text : List ℕ) (room : ℕ) → longest ≤ room → (parse_of 
 pub record ParseSettled : Type 0 where
   pub by_numbers : (text out : List ℕ) (a b : Parsed) (c d : List ℕ) → ParsedTo text out a c → ParsedTo text out b d → (a ≡ b) × (c ≡ d)
   pub answers :
-    (text out : List ℕ) (r s : Result ℕ Complaint) (c d : List ℕ) → ParsedTo text out (parsed_numbers r) c → ParsedTo text out (parsed_numbers s) d
-    → (r ≡ s) × (c ≡ d)
+      (text out : List ℕ) (r s : Result ℕ Complaint) (c d : List ℕ) → ParsedTo text out (parsed_numbers r) c → ParsedTo text out (parsed_numbers s) d
+      → (r ≡ s) × (c ≡ d)
 
 -- no two things that can be expected have the same number, and no two answers the same numbers
 pub record NumbersTell : Type 0 where

@@ -14,4 +14,4 @@ AlwaysEnough = (file : List ℕ) (room : ℕ) → AllBytes file → 153635 ≤ r
 pub record PrintSettled : Type 0 where
   pub by_numbers : (file out : List ℕ) (a b : Numbers) (c d : List ℕ) → PrintedTo file out a c → PrintedTo file out b d → (a ≡ b) × (c ≡ d)
   pub answers :
-    (file out : List ℕ) (r s : Result ℕ Reason) (c d : List ℕ) → PrintedTo file out (numbers r) c → PrintedTo file out (numbers s) d → (r ≡ s) × (c ≡ d)
+      (file out : List ℕ) (r s : Result ℕ Reason) (c d : List ℕ) → PrintedTo file out (numbers r) c → PrintedTo file out (numbers s) d → (r ≡ s) × (c ≡ d)

@@ -45,4 +45,4 @@ AlwaysEnough = (file : List ℕ) (room : ℕ) → AllBytes file → 40960 ≤ ro
 pub record ReportSettled : Type 0 where
   pub by_numbers : (file out : List ℕ) (a b : Numbers) (c d : List ℕ) → ReportedTo file out a c → ReportedTo file out b d → (a ≡ b) × (c ≡ d)
   pub answers :
-    (file out : List ℕ) (r s : Result ℕ Reason) (c d : List ℕ) → ReportedTo file out (numbers r) c → ReportedTo file out (numbers s) d → (r ≡ s) × (c ≡ d)
+      (file out : List ℕ) (r s : Result ℕ Reason) (c d : List ℕ) → ReportedTo file out (numbers r) c → ReportedTo file out (numbers s) d → (r ≡ s) × (c ≡ d)
