@@ -10,7 +10,8 @@
  * Every function
  *   - is total: it takes any bytes of any length, refuses what is wrong with them by number, and ends;
  *   - keeps nothing between two calls, allocates nothing, and calls nothing outside the library but memset; two threads may
- *     call at the same time with memory of their own. It wants 64 KB of stack (measured: parse 57 KB, report 28 KB);
+ *     call at the same time with memory of their own. It wants 64 KB of stack (measured: parse 54 KB, report 28 KB, and 3 KB
+ *     more in a call in which the loader looks memset up);
  *   - writes to no memory but what it is lent. Refused, it changes no byte of it. Else it changes the first
  *     STEPBENCH_LENGTH(word) bytes of `out`, and none after them.
  * What the caller owes is what C cannot say: each pointer is to that many bytes of its own (to some address, not a null
