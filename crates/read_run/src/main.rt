@@ -7,8 +7,14 @@ use runtext::Outcome;
 fn printed(out: &impl Print, err: &impl Print, file: &[u8], text: &mut [u8]) {
     let lost = b"read_run: writing failed\n";
     match runtext::output(file, text) {
-        Outcome::Text(len) => standard::write_front(out, err, text, len, lost),
-        Outcome::Refusal(len) => standard::write_front(err, err, text, len, lost),
+        Outcome::Text(len) => {
+            prove!(len <= text.len());
+            standard::write_front(out, err, text, len, lost);
+        }
+        Outcome::Refusal(len) => {
+            prove!(len <= text.len());
+            standard::write_front(err, err, text, len, lost);
+        }
     }
 }
 

@@ -11,6 +11,7 @@ fn main(rt: HostRuntime) {
         return;
     };
     let len = sheet::output(&file[..len], &mut text);
+    prove!(len <= text.len());
     standard::write_front(
         &rt.stdout(),
         &rt.stderr(),

@@ -6,7 +6,10 @@ fn turned(out: &impl Print, err: &impl Print, text: &[u8]) {
     let lost = b"write_run: writing failed\n";
     let mut file = [0u8; 53264];
     match drafting::parse(text, &mut file) {
-        Ok(len) => standard::write_front(out, err, &file, len, lost),
+        Ok(len) => {
+            prove!(len <= file.len());
+            standard::write_front(out, err, &file, len, lost);
+        }
         Err(complaint) => {
             let mut line = [0u8; 128];
             let len = messages::complain(complaint.line, complaint.expected.number(), &mut line);
